@@ -1,0 +1,113 @@
+-- Laws of what is counted, found, held by all and summed over the numbers below a bound.
+use mathlib.Core.Bool.{Bool, true, false, _||_, or-true, false≢true}
+use mathlib.Core.Path.{_≡_, refl, sym, ap₂, _∙_}
+use Prim.Native.Nat.{ℕ, zero, suc, _+_, _*_, _<_, _≤_}
+use native.Mathlib.Nat.{add-zero, add-suc, mul-suc}
+use native.Mathlib.Decide.{ℕ-discrete}
+use native.Mathlib.Omega.{arith}
+use Rattle.laws.specs.Counting.{one, countBelow, anyBelow, allBelow, sumBelow}
+use Rattle.laws.proofs.Orders.{and-both}
+
+-- ---- each number below n
+
+pub all-intro : (f : ℕ → Bool) (n : ℕ) → ((k : ℕ) → k < n → f k ≡ true) → allBelow f n ≡ true
+unfolding allBelow
+all-intro f zero h = refl
+all-intro f (suc n) h = rw (all-intro f n (λ k l. h k (omega arith)), h n (omega arith))
+
+pub all-elim : (f : ℕ → Bool) (n : ℕ) → allBelow f n ≡ true → (k : ℕ) → k < n → f k ≡ true
+unfolding allBelow
+all-elim f zero e k l = absurd (omega arith)
+all-elim f (suc n) e k l =
+    let a = and-both (allBelow f n) (f n) e in
+    elim (ℕ-discrete k n) [ yes q ↦ rw q (a .1) | no q ↦ all-elim f n (a .0) k (omega arith) ]
+
+is-false : (b : Bool) → (b ≡ true → ⊥) → b ≡ false
+is-false true h = absurd (h refl)
+is-false false h = refl
+
+-- one that fails is enough
+pub all-fails : (f : ℕ → Bool) (n k : ℕ) → k < n → f k ≡ false → allBelow f n ≡ false
+all-fails f n k l e = is-false (allBelow f n) (λ a. false≢true (sym e ∙ all-elim f n a k l))
+
+-- ---- some number below n
+
+pub any-intro : (f : ℕ → Bool) (n j : ℕ) → j < n → f j ≡ true → anyBelow f n ≡ true
+unfolding anyBelow
+any-intro f zero j l e = absurd (omega arith)
+any-intro f (suc n) j l e = elim (ℕ-discrete j n) [
+  | yes q ↦ let e′ : f n ≡ true = rw q at e in rw e′ (or-true (anyBelow f n))
+  | no q ↦ rw (any-intro f n j (omega arith) e)
+]
+
+any-step : (f : ℕ → Bool) (n : ℕ) (b c : Bool) → (b ≡ true → (j : ℕ) × (j < n) × (f j ≡ true)) → f n ≡ c → (b || c) ≡ true → (j : ℕ) × (j < suc n) × (f j ≡ true)
+any-step f n true c h q e = let r = h refl in (r .0, omega (arith, r .1), r .2)
+any-step f n false c h q e = (n, omega arith, q ∙ e)
+
+pub any-elim : (f : ℕ → Bool) (n : ℕ) → anyBelow f n ≡ true → (j : ℕ) × (j < n) × (f j ≡ true)
+unfolding anyBelow
+any-elim f zero e = absurd (false≢true e)
+any-elim f (suc n) e = any-step f n (anyBelow f n) (f n) (any-elim f n) refl e
+
+-- ---- how many numbers below n
+
+pub one-mono : (x y : Bool) → (x ≡ true → y ≡ true) → one x ≤ one y
+one-mono false y h = omega arith
+one-mono true true h = omega arith
+one-mono true false h = absurd (false≢true (h refl))
+
+pub count-cong : (f g : ℕ → Bool) (n : ℕ) → ((k : ℕ) → k < n → f k ≡ g k) → countBelow f n ≡ countBelow g n
+unfolding countBelow
+count-cong f g zero h = refl
+count-cong f g (suc n) h = ap₂ (λ (x : ℕ) (y : Bool). x + one y) (count-cong f g n (λ k p. h k (omega arith))) (h n (omega arith))
+
+pub count-first : (f : ℕ → Bool) (n : ℕ) → countBelow f (suc n) ≡ one (f 0) + countBelow (λ k. f (suc k)) n
+unfolding countBelow
+count-first f zero = omega arith
+count-first f (suc n) = omega (arith, count-first f n)
+
+pub count-add : (f : ℕ → Bool) (m n : ℕ) → countBelow f (m + n) ≡ countBelow f m + countBelow (λ k. f (m + k)) n
+unfolding countBelow
+count-add f m zero = rw (add-zero m, add-zero)
+count-add f m (suc n) = rw add-suc (omega (arith, count-add f m n))
+
+pub count-mono : (f g : ℕ → Bool) (n : ℕ) → ((k : ℕ) → f k ≡ true → g k ≡ true) → countBelow f n ≤ countBelow g n
+unfolding countBelow
+count-mono f g zero h = omega arith
+count-mono f g (suc n) h = omega (arith, count-mono f g n h, one-mono (f n) (g n) (h n))
+
+pub count-le : (f : ℕ → Bool) (n : ℕ) → countBelow f n ≤ n
+unfolding countBelow
+count-le f zero = omega arith
+count-le f (suc n) = omega (arith, count-le f n, one-mono (f n) true (λ e. refl))
+
+-- a bound further up counts no less
+pub count-up : (f : ℕ → Bool) (m n : ℕ) → m ≤ n → countBelow f m ≤ countBelow f n
+unfolding countBelow
+count-up f m zero l = let e : m ≡ 0 = omega arith in rw e (omega arith)
+count-up f m (suc n) l = elim (ℕ-discrete m (suc n)) [
+  | yes q ↦ rw q (omega arith)
+  | no q ↦ omega (arith, count-up f m n (omega arith))
+]
+
+-- ---- sums
+
+-- a sum of n numbers up to b is at most n times b
+pub sum-le : (f : ℕ → ℕ) (n b : ℕ) → ((k : ℕ) → k < n → f k ≤ b) → sumBelow f n ≤ b * n
+unfolding sumBelow
+sum-le f zero b h = omega arith
+sum-le f (suc n) b h = rw mul-suc (omega (arith, sum-le f n b (λ k l. h k (omega arith)), h n (omega arith)))
+
+-- ---- one turn of a loop that counts
+
+pub count-turn : (f : ℕ → Bool) (i n : ℕ) → n ≡ countBelow f i → f i ≡ true → n + 1 ≡ countBelow f (suc i)
+unfolding countBelow
+count-turn f i n e p = rw (p, e)
+
+pub count-pass : (f : ℕ → Bool) (i n : ℕ) → n ≡ countBelow f i → f i ≡ false → n ≡ countBelow f (suc i)
+unfolding countBelow
+count-pass f i n e p = rw (p, e) (sym (add-zero (countBelow f i)))
+
+-- while one more is to be counted, the count is below the whole
+pub count-room : (f : ℕ → Bool) (i n m : ℕ) → n ≡ countBelow f i → f i ≡ true → i < m → n < countBelow f m
+count-room f i n m e p l = omega (arith, count-turn f i n e p, count-up f (suc i) m l)

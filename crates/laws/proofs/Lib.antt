@@ -1,0 +1,4 @@
+-- Laws that the other crates' proofs cite.
+pub mod Orders
+pub mod Counting
+pub mod Lists

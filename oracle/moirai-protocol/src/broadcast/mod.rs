@@ -1,0 +1,3 @@
+//! Stand-in: the path `crate::broadcast::internalizer` fixes this one module.
+
+pub mod internalizer;

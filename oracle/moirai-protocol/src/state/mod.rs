@@ -1,0 +1,3 @@
+//! Stand-in: the path `crate::state::unstable_state` fixes this one module.
+
+pub mod unstable_state;

@@ -1,0 +1,112 @@
+//! The history words, answered by the original's `EventHistory`.
+//!
+//! The original keeps replicas in a hash map. Lists over several replicas are sorted by replica, stably, so that the
+//! order within a replica stays the original's own.
+
+use std::collections::HashMap;
+
+use moirai_protocol::{
+    broadcast::internalizer::Resolver,
+    replica::ReplicaIdx,
+    state::unstable_state::{IsUnstableCausal, IsUnstableCore, IsUnstablePrune, event_history::EventHistory},
+};
+use runs::{
+    answer::Answer,
+    lines::{Call, Event, Id, Vector},
+};
+
+use crate::original::*;
+
+#[derive(Clone)]
+pub struct History {
+    replicas: u64,
+    names: Resolver,
+    log: EventHistory<u64>,
+}
+
+fn by_replica(mut events: Vec<Event>) -> Answer {
+    events.sort_by_key(|event| event.id.replica);
+    Answer::Events(events)
+}
+
+impl History {
+    pub fn new(replicas: u64) -> Self {
+        Self {
+            replicas,
+            names: resolver(replicas),
+            log: EventHistory::default(),
+        }
+    }
+
+    /// Answers every call but creation, where `refusal` is none.
+    pub fn run(&mut self, call: &Call) -> Reply {
+        let id = |id: &Id| event_id(&self.names, id);
+        let version = |v: &Vector| version(&self.names, 0, v);
+        let idx = |replica: &u64| ReplicaIdx(*replica as usize);
+        let answer = match call {
+            Call::Append(event) => {
+                self.log.append(original_event(&self.names, event));
+                Answer::Done
+            }
+            Call::Get(e) => Answer::Event(self.log.get(&id(e)).map(event_of)),
+            Call::Version(e) => Answer::Vector(self.log.version(&id(e)).map(entries_of_version)),
+            Call::LastVersion(o) => Answer::Vector(self.last_version(*o)),
+            Call::Predecessors(v) => by_replica(events_of(self.log.predecessors(&version(v)))),
+            Call::Concurrent(v) => by_replica(events_of(self.log.concurrent(&version(v)))),
+            Call::Iter => by_replica(events_of(self.log.iter())),
+            Call::ReplicaEvents(o, a, b) => {
+                let range = (*a as usize..*b as usize).into();
+                Answer::Events(events_of(self.log.replica_events(idx(o), range)))
+            }
+            Call::Len => Answer::Number(self.log.len() as u64),
+            Call::IsEmpty => Answer::YesNo(self.log.is_empty()),
+            Call::Previous(e, r) => Answer::Event(self.log.previous(&id(e), idx(r)).map(event_of)),
+            Call::Next(e, r) => Answer::Event(self.log.next(&id(e), idx(r)).map(event_of)),
+            Call::Newly(e) => by_replica(events_of(self.log.newly_observed_by(&id(e)))),
+            Call::Prune(v) => {
+                let frontier = frontier(&self.names, v);
+                self.removing(|log| log.prune_predecessors(&frontier))
+            }
+            Call::Remove(e) => {
+                let id = id(e);
+                self.removing(|log| log.remove(&id))
+            }
+            Call::Retain(mask) => {
+                let mut held: Vec<Id> = self.log.iter().map(|event| id_of(event.id())).collect();
+                held.sort_by_key(|id| id.replica);
+                let keep: HashMap<Id, u8> = held.into_iter().zip(mask.iter().copied()).collect();
+                self.removing(|log| log.retain(|event| keep[&id_of(event.id())] == 1))
+            }
+            Call::Clear => self.removing(|log| log.clear()),
+            Call::New(_) | Call::From(..) | Call::Roots | Call::Named | Call::Greatest(_) => unreachable!(),
+            Call::IsCritical(_) | Call::Parents(_) | Call::Heads | Call::Cuts | Call::Order(_) => unreachable!(),
+        };
+        answer.into()
+    }
+
+    /// The refusals that need no rule of the log: bad events, vectors and masks.
+    pub fn refusal(&self, call: &Call) -> Option<u64> {
+        match call {
+            Call::Append(event) => bad_event(self.replicas, event),
+            Call::Predecessors(v) | Call::Concurrent(v) | Call::Prune(v) => bad_vector(self.replicas, v).then_some(3),
+            Call::Retain(mask) => (mask.len() != self.log.len() || mask.iter().any(|&keep| keep > 1)).then_some(15),
+            _ => None,
+        }
+    }
+
+    /// The original keeps its traces to itself, so the last version is read off what it derives for `Debug`: in a
+    /// trace's text the boundary version comes first and the retained versions follow in order.
+    fn last_version(&self, replica: u64) -> Option<Vec<u64>> {
+        let text = format!("{:?}", self.log);
+        let opening = format!("ReplicaIdx({replica}): ReplicaTrace {{");
+        let trace = &text[text.find(&opening)? + opening.len()..];
+        let trace = &trace[..trace.find(": ReplicaTrace {").unwrap_or(trace.len())];
+        numbers_after(trace, "VersionEntries([")
+    }
+
+    fn removing(&mut self, change: impl FnOnce(&mut EventHistory<u64>)) -> Answer {
+        let before = self.log.len();
+        change(&mut self.log);
+        Answer::Number((before - self.log.len()) as u64)
+    }
+}

@@ -1,0 +1,73 @@
+//! Desks that write notes and hear each other: the source of causally sound events.
+
+use runs::{
+    lines::{Event, Id, TOP},
+    model::join,
+    random::Random,
+};
+
+use crate::values::anything;
+
+#[derive(Default)]
+pub struct Desks {
+    /// What each desk has seen.
+    seen: Vec<Vec<u64>>,
+    clock: u64,
+}
+
+impl Desks {
+    pub fn new(replicas: u64, base: &[u64]) -> Self {
+        Self {
+            seen: vec![base.to_vec(); replicas as usize],
+            clock: 0,
+        }
+    }
+
+    pub fn hear(&mut self, random: &mut Random) {
+        let (listener, speaker) = (random.index(self.seen.len()), random.index(self.seen.len()));
+        self.seen[listener] = join(&self.seen[listener], &self.seen[speaker]);
+    }
+
+    pub fn all_hear(&mut self, vector: &[u64]) {
+        for seen in &mut self.seen {
+            *seen = join(seen, vector);
+        }
+    }
+
+    /// A new event of some desk, `step` sequences further, with no disambiguator; none at the top.
+    pub fn write(&mut self, random: &mut Random, step: u64) -> Option<Event> {
+        let desk = random.index(self.seen.len());
+        let sequence = self.seen[desk][desk] + step;
+        if sequence > TOP {
+            return None;
+        }
+        self.seen[desk][desk] = sequence;
+        self.clock += 1;
+        let odd = random.chance(5);
+        Some(Event {
+            id: Id {
+                replica: desk as u64,
+                sequence,
+                disambiguator: None,
+            },
+            lamport: if odd { anything(random) } else { self.clock },
+            payload: if odd { anything(random) } else { 1000 + self.clock },
+            version: self.seen[desk].clone(),
+        })
+    }
+
+    /// What every desk has seen.
+    pub fn common(&self) -> Vec<u64> {
+        let mut common = self.seen[0].clone();
+        for seen in &self.seen {
+            for (entry, other) in common.iter_mut().zip(seen) {
+                *entry = (*other).min(*entry);
+            }
+        }
+        common
+    }
+
+    pub fn some_seen(&self, random: &mut Random) -> Vec<u64> {
+        random.pick(&self.seen).clone()
+    }
+}
