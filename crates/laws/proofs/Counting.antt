@@ -1,12 +1,15 @@
 -- Laws of what is counted, found, held by all and summed over the numbers below a bound.
-use mathlib.Core.Bool.{Bool, true, false, _||_, or-true, false≢true}
+use mathlib.Core.Bool.{Bool, true, false, _&&_, _||_, not, or-true, false≢true}
 use mathlib.Core.Path.{_≡_, refl, sym, ap₂, _∙_}
+use mathlib.Core.Logic.{⊎-elim}
 use Prim.Native.Nat.{ℕ, zero, suc, _+_, _*_, _<_, _≤_}
 use native.Mathlib.Nat.{add-zero, add-suc, mul-suc}
 use native.Mathlib.Decide.{ℕ-discrete}
 use native.Mathlib.Omega.{arith}
+use lib.Dec.{eqb}
+use borrow.Author.Tests.{eq-eqb, eqb-true}
 use Rattle.laws.specs.Counting.{one, countBelow, anyBelow, allBelow, sumBelow}
-use Rattle.laws.proofs.Orders.{and-both}
+use Rattle.laws.proofs.Orders.{and-both, le-or-lt}
 
 -- ---- each number below n
 
@@ -89,6 +92,64 @@ count-up f m (suc n) l = elim (ℕ-discrete m (suc n)) [
   | yes q ↦ rw q (omega arith)
   | no q ↦ omega (arith, count-up f m n (omega arith))
 ]
+
+-- a set within another, with one member less, is smaller
+pub count-less : (f g : ℕ → Bool) (p n : ℕ) → p < n → ((k : ℕ) → f k ≡ true → g k ≡ true) → g p ≡ true → f p ≡ false → countBelow f n < countBelow g n
+unfolding countBelow
+count-less f g p zero l h a b = absurd (omega arith)
+count-less f g p (suc n) l h a b = elim (ℕ-discrete p n) [
+  | yes q ↦ let a′ : g n ≡ true = rw q at a in let b′ : f n ≡ false = rw q at b in rw (a′, b′) (omega (arith, count-mono f g n h))
+  | no q ↦ omega (arith, count-less f g p n (omega arith) h a b, one-mono (f n) (g n) (h n))
+]
+
+-- the numbers that satisfy f and those that do not are all
+pub count-not : (f : ℕ → Bool) (n : ℕ) → countBelow f n + countBelow (λ k. not (f k)) n ≡ n
+unfolding countBelow
+count-not f zero = refl
+count-not f (suc n) = omega (arith, count-not f n, one-not (f n))
+  where
+    one-not : (b : Bool) → one b + one (not b) ≡ 1
+    one-not true = refl
+    one-not false = refl
+
+pub count-rises : (f : ℕ → Bool) (k n : ℕ) → k < n → f k ≡ true → countBelow f k < countBelow f n
+unfolding countBelow
+count-rises f k zero l e = absurd (omega arith)
+count-rises f k (suc n) l e = elim (ℕ-discrete k n) [
+  | yes q ↦ let e′ : f n ≡ true = rw q at e in rw (q, e′) (omega arith)
+  | no q ↦ omega (arith, count-rises f k n (omega arith) e)
+]
+
+pub count-skips : (f : ℕ → Bool) (k n : ℕ) → k < n → f k ≡ false → countBelow f n + suc k ≤ countBelow f k + n
+unfolding countBelow
+count-skips f k zero l e = absurd (omega arith)
+count-skips f k (suc n) l e = elim (ℕ-discrete k n) [
+  | yes q ↦ let e′ : f n ≡ false = rw q at e in rw (q, e′) (omega arith)
+  | no q ↦ omega (arith, count-skips f k n (omega arith) e, one-mono (f n) true (λ h. refl))
+]
+
+-- what rises with the numbers that K picks tells them apart
+pub rises-same : (K : ℕ → Bool) (f : ℕ → ℕ) → ((k n : ℕ) → k < n → K k ≡ true → f k < f n) → (k n : ℕ) → K k ≡ true → K n ≡ true → f k ≡ f n → k ≡ n
+rises-same K f h k n a b e =
+    ⊎-elim (λ (p : k ≤ n). ⊎-elim (λ (q : n ≤ k). omega arith) (λ (q : k < n). absurd (omega (arith, h k n q a))) (le-or-lt n k))
+    (λ (p : n < k). absurd (omega (arith, h n k p b))) (le-or-lt k n)
+
+pub any-cong : (f g : ℕ → Bool) (n : ℕ) → ((k : ℕ) → k < n → f k ≡ g k) → anyBelow f n ≡ anyBelow g n
+unfolding anyBelow
+any-cong f g zero h = refl
+any-cong f g (suc n) h = ap₂ (λ (x y : Bool). x || y) (any-cong f g n (λ k l. h k (omega arith))) (h n (omega arith))
+
+-- some number below n satisfies a and b, and c takes it to q
+module _ (a b : ℕ → Bool) (c : ℕ → ℕ) (n q : ℕ) where
+  pub goes-intro : (k : ℕ) → k < n → a k ≡ true → b k ≡ true → c k ≡ q → anyBelow (λ k. (a k && b k) && eqb (c k) q) n ≡ true
+  goes-intro k l x y z = any-intro (λ k. (a k && b k) && eqb (c k) q) n k l (rw (x, y) (eq-eqb (c k) q z))
+
+  pub goes-elim : anyBelow (λ k. (a k && b k) && eqb (c k) q) n ≡ true → (k : ℕ) × (k < n) × (a k ≡ true) × (b k ≡ true) × (c k ≡ q)
+  goes-elim e =
+      let w = any-elim (λ k. (a k && b k) && eqb (c k) q) n e in
+      let s = and-both (a (w .0) && b (w .0)) (eqb (c (w .0)) q) (w .2) in
+      let t = and-both (a (w .0)) (b (w .0)) (s .0) in
+      (w .0, w .1, t .0, t .1, eqb-true (c (w .0)) q (s .1))
 
 -- ---- sums
 

@@ -1,0 +1,4 @@
+-- What the contracts of `positions` cite.
+pub mod Bits
+pub mod Members
+pub mod Compacting
