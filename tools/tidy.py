@@ -19,6 +19,7 @@ def rank(module):
 
 
 def is_used(name, body):
+    name = name.split(" as ")[-1]
     parts = [part for part in name.split("_") if part]
     if "_" in name and parts:
         return all(part in body for part in parts)
