@@ -126,6 +126,13 @@ impl CausalFrontier {
         }
     }
 
+    // As many zeros.
+    pub fn zeroed(self) -> CausalFrontier
+        ensures { λ r. ⌜ r ≡ Rattle.clocks.specs.Frontiers.zeros (self .len) ⌝ }
+    {
+        zeros(self.len)
+    }
+
     pub fn len(self) -> usize
         ensures { λ r. ⌜ r ≡ self .len ⌝ }
     {
@@ -197,6 +204,18 @@ impl CausalFrontier {
             )
         } else {
             answer(BAD_VECTOR, self)
+        }
+    }
+
+    // No entry below these. They are the caller's to keep within the top and below R.
+    pub fn raised(self, entries: [Seq; 16]) -> CausalFrontier
+        ensures { λ r. ⌜ r ≡ record { len = self .len; entries = joinEntries (self .entries) entries } ⌝ }
+    {
+        let ours = self.entries;
+        let raised = joined_entries(ours, &entries);
+        CausalFrontier {
+            len: self.len,
+            entries: raised,
         }
     }
 

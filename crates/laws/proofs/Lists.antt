@@ -97,3 +97,9 @@ pub tabulate-cong : (f g : ℕ → ℕ) (n : ℕ) → ((i : ℕ) → i < n → f
 unfolding tabulate
 tabulate-cong f g zero h = refl
 tabulate-cong f g (suc n) h = ap₂ (λ (x : List ℕ) (y : ℕ). x ++ (y ∷ [])) (tabulate-cong f g n (λ i l. h i (omega arith))) (h n (omega arith))
+
+-- the same test, and the same rule, below the bound
+pub list-same : (t u : ℕ → Bool) (f g : ℕ → ℕ) (n : ℕ) → ((k : ℕ) → k < n → t k ≡ u k) → ((k : ℕ) → k < n → f k ≡ g k) → listBelow t f n ≡ listBelow u g n
+unfolding listBelow
+list-same t u f g zero h q = refl
+list-same t u f g (suc n) h q = rw (h n (omega arith), q n (omega arith), list-same t u f g n (λ k l. h k (omega arith)) (λ k l. q k (omega arith)))

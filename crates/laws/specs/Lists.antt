@@ -18,3 +18,8 @@ listBelow t f (suc n) = listBelow t f n ++ pick (t n) (f n ∷ []) []
 -- a list written from a buffer's start; the rest keeps its values
 abbrev pub written : List ℕ → List ℕ → List ℕ
 written xs buffer = xs ++ drop (length xs) buffer
+
+-- the lists f 0, f 1, .., f (n - 1), one behind the other
+unfoldable pub concatBelow : (ℕ → List ℕ) → ℕ → List ℕ
+concatBelow f zero = []
+concatBelow f (suc n) = concatBelow f n ++ f n

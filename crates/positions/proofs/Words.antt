@@ -18,7 +18,7 @@ use Rattle.laws.proofs.Counting.{count-add, count-cong}
 use Rattle.positions.specs.Bits.{bit, LowZero, BitLength, LoweredWord}
 use Rattle.positions.specs.Members.{has, FirstMissing, HighestAt}
 use Rattle.positions.specs.declared.Positions.{Positions}
-use Rattle.positions.proofs.Bits.{bit-or, bit-zero}
+use Rattle.positions.proofs.Bits.{bit-mask, bit-or, bit-zero}
 
 pub has-out : (p : Positions) (k : ℕ) → 256 ≤ k → has p k ≡ false
 unfolding has
@@ -82,6 +82,14 @@ four₂ f a b z w0 w1 w2 w3 h0 h1 h2 h3 =
 
 pub none : (k : ℕ) → has (record { words = 0 ∷ 0 ∷ 0 ∷ 0 ∷ [] }) k ≡ false
 none = four 0 0 0 0 (λ (k : ℕ). false) (λ k p. bit-zero k) (λ k p. bit-zero k) (λ k p. bit-zero k) (λ k p. bit-zero k) (λ k p. refl)
+
+pub every : (k : ℕ) → has (record { words = 18446744073709551615 ∷ 18446744073709551615 ∷ 18446744073709551615 ∷ 18446744073709551615 ∷ [] }) k ≡ ltb k 256
+every = four 18446744073709551615 18446744073709551615 18446744073709551615 18446744073709551615 (λ (k : ℕ). ltb k 256)
+    (λ k p. full k p ∙ sym (lt-ltb k 256 (omega arith))) (λ k p. full k p ∙ sym (lt-ltb (64 + k) 256 (omega arith)))
+    (λ k p. full k p ∙ sym (lt-ltb (128 + k) 256 (omega arith))) (λ k p. full k p ∙ sym (lt-ltb (192 + k) 256 (omega arith))) (λ k p. le-ltb k 256 p)
+  where
+    full : (k : ℕ) → k < 64 → bit 18446744073709551615 k ≡ true
+    full k p = bit-mask 64 k ∙ lt-ltb k 64 p
 
 -- ---- one more position
 pub same-bit : (i k : ℕ) → k / 64 ≡ i / 64 → eqb (k % 64) (i % 64) ≡ eqb k i

@@ -37,6 +37,28 @@ impl Positions {
         Positions { words: [0u64; 4] }
     }
 
+    // All 256 positions.
+    pub fn all() -> Positions
+        ensures { λ r. ⌜ ((k : ℕ) → has r k ≡ ltb k 256) ⌝ }
+    {
+        Positions {
+            words: [0xFFFF_FFFF_FFFF_FFFFu64; 4],
+        }
+    }
+
+    // The set of these four words.
+    pub fn from_words(words: [u64; 4]) -> Positions
+        ensures { λ r. ⌜ r ≡ record { words = words } ⌝ }
+    {
+        Positions { words }
+    }
+
+    pub fn words(self) -> [u64; 4]
+        ensures { λ r. ⌜ r ≡ self .words ⌝ }
+    {
+        self.words
+    }
+
     pub fn contains(self, i: NodeIndex) -> bool
         ensures { λ r. ⌜ r ≡ has self (i .0) ⌝ }
     {

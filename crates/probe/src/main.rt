@@ -1,0 +1,178 @@
+// Reads test lines from standard input and prints an answer line for each: every call of the libraries, one word each.
+// It decides nothing by itself. It takes a line apart, makes the call, and prints the refusal number or 0 and what came back.
+ghost use Prim.Native.Nat.{_<_};
+ghost use lib.ListN.{length};
+
+mod answers;
+mod clock_words;
+mod dependency_words;
+mod frontier_calls;
+mod lent;
+mod session;
+mod tables;
+mod version_calls;
+
+use listing::lines::Held;
+use session::Session;
+
+// An answer has room: a list of 512 events takes 67 bytes each at most.
+const LONGEST_ANSWER: usize = 40_960;
+
+// What goes from one read to the next.
+struct Progress {
+    held: Held,
+    session: Session,
+    ended: bool,
+}
+
+// The place in a piece of the input.
+struct Place {
+    held: Held,
+    session: Session,
+    at: usize,
+}
+
+// Writes what is collected.
+fn flush(session: Session, out: &[u8]) -> Session {
+    let at = session.at;
+    if at <= out.len() {
+        io::write_all(1, &out[0..at]);
+    }
+    session.moved(0)
+}
+
+// Answers the line that is held. An overlong one is no line.
+fn answer_held(s: Session, held: Held, line: &[u8], out: &mut [u8]) -> Session {
+    let n = held.len;
+    if held.overlong {
+        return session::refuse_line(s, out);
+    }
+    if line.len() < n {
+        return session::refuse_line(s, out);
+    }
+    session::answer(s, &line[0..n], out)
+}
+
+// The next part of a line, and its answer where the line ends in it. It goes on by one byte at least.
+fn next_part(q: Place, piece: &[u8], line: &mut [u8], out: &mut [u8]) -> Place
+    ensures { λ r. ⌜ (q .at < length (now (piece .entry)) → q .at < r .at) ⌝ }
+{
+    let taken = listing::lines::feed(line, q.held, piece, q.at);
+    let held = taken.held;
+    if taken.complete {
+        let s = make_room(q.session, out);
+        let session = answer_held(s, held, line, out);
+        let none = listing::lines::fresh();
+        return Place {
+            held: none,
+            session,
+            at: taken.next,
+        };
+    }
+    let session = q.session;
+    Place {
+        held,
+        session,
+        at: taken.next,
+    }
+}
+
+// Answers each line that ends in this piece.
+fn answer_piece(p: Progress, piece: &[u8], line: &mut [u8], out: &mut [u8]) -> Place {
+    let held = p.held;
+    let session = p.session;
+    let mut q = Place {
+        held,
+        session,
+        at: 0,
+    };
+    while q.at < piece.len() {
+        q = next_part(q, piece, line, out);
+    }
+    q
+}
+
+// Room for the longest answer.
+fn make_room(s: Session, out: &[u8]) -> Session {
+    let at = s.at;
+    if at <= out.len() {
+        if LONGEST_ANSWER <= out.len() - at {
+            return s;
+        }
+    }
+    flush(s, out)
+}
+
+// How many bytes one read put at the buffer's start; 0 at the end of the input, or where the read failed.
+fn read_some(input: &mut [u8]) -> usize {
+    let got = libc::read(0, input);
+    io::count(got, input)
+}
+
+// One read, and the lines that end in it.
+fn turn(p: Progress, input: &mut [u8], line: &mut [u8], out: &mut [u8]) -> Progress {
+    let n = read_some(input);
+    if n == 0 {
+        return last_line(p, line, out);
+    }
+    if input.len() < n {
+        return last_line(p, line, out);
+    }
+    let q = answer_piece(p, &input[0..n], line, out);
+    written(q, out)
+}
+
+// What a read was answered with is written before the next read, so a driver that waits for answers gets them.
+fn written(q: Place, out: &[u8]) -> Progress {
+    let held = q.held;
+    let session = flush(q.session, out);
+    Progress {
+        held,
+        session,
+        ended: false,
+    }
+}
+
+// At the end of the input: a last line may lack its newline.
+fn last_line(p: Progress, line: &[u8], out: &mut [u8]) -> Progress {
+    let held = p.held;
+    if held.len == 0 && !held.overlong {
+        return ended(p.session, out);
+    }
+    let s = answer_held(p.session, held, line, out);
+    ended(s, out)
+}
+
+fn ended(s: Session, out: &[u8]) -> Progress {
+    let held = listing::lines::fresh();
+    let session = flush(s, out);
+    Progress {
+        held,
+        session,
+        ended: true,
+    }
+}
+
+// A proved loop has to end, and nothing says that the input does: the turns are counted down from a number that no run uses up.
+fn run(input: &mut [u8], line: &mut [u8], out: &mut [u8]) {
+    let mut p = Progress {
+        held: listing::lines::fresh(),
+        session: Session::new(),
+        ended: false,
+    };
+    let mut turns = u64::MAX;
+    while 0 < turns {
+        p = turn(p, input, line, out);
+        if p.ended {
+            return;
+        }
+        turns -= 1;
+    }
+}
+
+fn main() {
+    let mut input = io::large_buffer();
+    let mut line = io::buffer();
+    let mut out = io::large_buffer();
+    run(&mut input, &mut line, &mut out);
+}

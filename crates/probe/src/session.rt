@@ -1,0 +1,88 @@
+// What the words of all modules share, and which module a word belongs to.
+use crate::answers;
+use crate::clock_words;
+use crate::lent::entry;
+use crate::tables::is_run;
+use clocks::refusal::BAD_LINE;
+use listing::text::same;
+use listing::tokens::Parsed;
+use listing::tokens::parse;
+use listing::tokens::word_end;
+
+// No word has more tokens behind it: two vectors, a number before each, and the bar. A keep mask is read in another way.
+const MOST_TOKENS: usize = 64;
+
+// The most entries of a lent buffer.
+pub const MOST_ROOM: usize = 1024;
+
+pub struct Session {
+    // How much of the output buffer is filled.
+    pub at: usize,
+    // How many entries the buffers have that list calls are lent.
+    pub room: usize,
+    // R of the clock words; 0 before a good c.replicas.
+    pub replicas: usize,
+}
+
+impl Session {
+    pub fn new() -> Session {
+        Session {
+            at: 0,
+            room: 512,
+            replicas: 0,
+        }
+    }
+
+    // The same with the output filled up to another place.
+    pub fn moved(self, at: usize) -> Session {
+        Session {
+            at,
+            room: self.room,
+            replicas: self.replicas,
+        }
+    }
+}
+
+// What is no line, and what has no log yet.
+pub fn refuse_line(s: Session, out: &mut [u8]) -> Session {
+    s.moved(answers::refusal(out, s.at, BAD_LINE))
+}
+
+// `room N`
+fn room(s: Session, kinds: &[u8], values: &[usize], out: &mut [u8]) -> Session {
+    if kinds.len() != 1 || !is_run(kinds, 0, 1) {
+        return refuse_line(s, out);
+    }
+    let room = entry(values, 0);
+    if MOST_ROOM < room {
+        return refuse_line(s, out);
+    }
+    let at = answers::accepted(out, s.at);
+    Session {
+        at: answers::line_end(out, at),
+        room,
+        replicas: s.replicas,
+    }
+}
+
+// One line, taken apart and handed to the module of its word.
+pub fn answer(s: Session, line: &[u8], out: &mut [u8]) -> Session {
+    let mut kinds = [0u8; MOST_TOKENS];
+    let mut values = [0usize; MOST_TOKENS];
+    let end = word_end(line);
+    let parsed = parse(line, end, &mut kinds, &mut values);
+    let Parsed::Tokens(n) = parsed else {
+        return refuse_line(s, out);
+    };
+    if MOST_TOKENS < n {
+        return refuse_line(s, out);
+    }
+    by_word(s, &line[0..end], &kinds[0..n], &values[0..n], out)
+}
+
+fn by_word(s: Session, word: &[u8], kinds: &[u8], values: &[usize], out: &mut [u8]) -> Session {
+    if same(word, b"room") {
+        return room(s, kinds, values, out);
+    }
+    clock_words::answer(s, word, kinds, values, out)
+}
