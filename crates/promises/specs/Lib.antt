@@ -1,0 +1,2 @@
+-- Statements that a reader can check without reading a proof.
+pub mod GraphExamples

@@ -1,0 +1,1 @@
+// The demands as statements: definitions in specs/, proofs in proofs/. There is no code here.
