@@ -11,7 +11,8 @@ use lib.ListN.{length, List·getD-eq-default}
 use borrow.Author.Tests.{le-leb, leb-true, eqb-true, eq-eqb}
 use Rattle.laws.specs.Counting.{allBelow, sumBelow}
 use Rattle.laws.proofs.Orders.{le-or-lt, and-both}
-use Rattle.laws.proofs.Counting.{all-intro, all-elim, sum-le}
+use Rattle.laws.proofs.Counting.{all-intro, all-elim}
+use Rattle.laws.proofs.Sums.{sum-le}
 use Rattle.clocks.specs.Vectors.{top, entry, wellFormed, wellFormedFor, covers, atMost, comparedBy, compared, total}
 use Rattle.clocks.specs.declared.id.EventId.{EventId}
 use Rattle.clocks.specs.declared.vector.Comparison.{Comparison}

@@ -2,13 +2,13 @@
 use mathlib.Core.Bool.{Bool, true, false, _&&_, _||_, not, or-true, false≢true}
 use mathlib.Core.Path.{_≡_, refl, sym, ap₂, _∙_}
 use mathlib.Core.Logic.{⊎-elim}
-use Prim.Native.Nat.{ℕ, zero, suc, _+_, _*_, _<_, _≤_}
-use native.Mathlib.Nat.{add-zero, add-suc, mul-suc}
+use Prim.Native.Nat.{ℕ, zero, suc, _+_, _<_, _≤_}
+use native.Mathlib.Nat.{add-zero, add-suc}
 use native.Mathlib.Decide.{ℕ-discrete}
 use native.Mathlib.Omega.{arith}
 use lib.Dec.{eqb}
 use borrow.Author.Tests.{eq-eqb, eqb-true}
-use Rattle.laws.specs.Counting.{one, countBelow, anyBelow, allBelow, sumBelow}
+use Rattle.laws.specs.Counting.{one, countBelow, anyBelow, allBelow}
 use Rattle.laws.proofs.Orders.{and-both, le-or-lt}
 
 -- ---- each number below n
@@ -150,14 +150,6 @@ module _ (a b : ℕ → Bool) (c : ℕ → ℕ) (n q : ℕ) where
       let s = and-both (a (w .0) && b (w .0)) (eqb (c (w .0)) q) (w .2) in
       let t = and-both (a (w .0)) (b (w .0)) (s .0) in
       (w .0, w .1, t .0, t .1, eqb-true (c (w .0)) q (s .1))
-
--- ---- sums
-
--- a sum of n numbers up to b is at most n times b
-pub sum-le : (f : ℕ → ℕ) (n b : ℕ) → ((k : ℕ) → k < n → f k ≤ b) → sumBelow f n ≤ b * n
-unfolding sumBelow
-sum-le f zero b h = omega arith
-sum-le f (suc n) b h = rw mul-suc (omega (arith, sum-le f n b (λ k l. h k (omega arith)), h n (omega arith)))
 
 -- ---- one turn of a loop that counts
 

@@ -2,4 +2,6 @@
 pub mod Orders
 pub mod Counting
 pub mod Searching
+pub mod Sums
 pub mod Lists
+pub mod Members

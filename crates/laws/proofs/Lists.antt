@@ -8,9 +8,9 @@ use native.Mathlib.Decide.{ℕ-discrete}
 use native.Mathlib.Numerals.{add-one}
 use native.Mathlib.Omega.{arith}
 use lib.ListN.{length, getD, set, drop, replicate, length-append, length-drop, length-replicate, getD-replicate, List·getD-append, List·getD-eq-default}
-use lib.Seq.{ext-getD, getD-set-same, getD-set-other, getD-append-seam, drop-cons, set-at}
+use lib.Seq.{ext-getD, getD-set-same, getD-set-other, getD-append-seam, getD-append-add, drop-cons, set-at}
 use Rattle.laws.specs.Counting.{pick, one, countBelow}
-use Rattle.laws.specs.Lists.{tabulate, listBelow, written}
+use Rattle.laws.specs.Lists.{tabulate, listBelow, concatBelow, written}
 use Rattle.laws.proofs.Orders.{le-or-lt}
 
 -- ---- tabulate
@@ -103,3 +103,20 @@ pub list-same : (t u : ℕ → Bool) (f g : ℕ → ℕ) (n : ℕ) → ((k : ℕ
 unfolding listBelow
 list-same t u f g zero h q = refl
 list-same t u f g (suc n) h q = rw (h n (omega arith), q n (omega arith), list-same t u f g n (λ k l. h k (omega arith)) (λ k l. q k (omega arith)))
+
+-- what stands in one of the lists, in all of them together
+concat-within : (f : ℕ → List ℕ) (n k c : ℕ) → k < n → c < length (f k) → length (concatBelow f k) + c < length (concatBelow f n)
+unfolding concatBelow
+concat-within f zero k c l m = absurd (omega arith)
+concat-within f (suc n) k c l m = elim (ℕ-discrete k n) [
+  | yes q ↦ let m′ : c < length (f n) = rw q at m in rw (q, length-append) (omega arith)
+  | no q ↦ rw length-append (omega (arith, concat-within f n k c (omega arith) m))
+]
+
+pub concat-at : (f : ℕ → List ℕ) (n k c : ℕ) → k < n → c < length (f k) → getD (concatBelow f n) (length (concatBelow f k) + c) 0 ≡ getD (f k) c 0
+unfolding concatBelow
+concat-at f zero k c l m = absurd (omega arith)
+concat-at f (suc n) k c l m = elim (ℕ-discrete k n) [
+  | yes q ↦ rw q (getD-append-add (concatBelow f n) (f n) c 0)
+  | no q ↦ List·getD-append (concatBelow f n) (f n) 0 (length (concatBelow f k) + c) (concat-within f n k c (omega arith) m) ∙ concat-at f n k c (omega arith) m
+]

@@ -2,12 +2,12 @@
 use mathlib.Core.Bool.{Bool, true, false, not, _&&_, _||_, false≢true}
 use mathlib.Core.Logic.{⊎-elim}
 use mathlib.Core.Path.{_≡_, refl, sym, ap, _∙_}
-use Prim.Native.Nat.{ℕ, zero, suc, _+_, max, _<_, _≤_}
+use Prim.Native.Nat.{ℕ, zero, suc, _+_, _<_, _≤_}
 use native.Mathlib.Nat.{le-max-left, le-max-right, max-le}
 use native.Mathlib.Decide.{ℕ-discrete}
 use native.Mathlib.Omega.{arith}
-use Rattle.laws.specs.Counting.{pick, anyBelow, allBelow, lastBelow, firstBelow, maxBelow}
-use Rattle.laws.proofs.Orders.{true-or-false}
+use Rattle.laws.specs.Counting.{pick, one, countBelow, anyBelow, allBelow, lastBelow, firstBelow, maxBelow}
+use Rattle.laws.proofs.Orders.{le-or-lt, true-or-false}
 use Rattle.laws.proofs.Counting.{any-intro}
 
 -- none below n
@@ -97,3 +97,15 @@ all-not-any f g (suc n) h = rw (all-not-any f g n (λ k l. h k (omega arith)), h
     de-morgan : (a b : Bool) → (not a && not b) ≡ not (a || b)
     de-morgan true b = refl
     de-morgan false b = refl
+
+-- every number below a count is the count below one that counts
+pub count-hit : (f : ℕ → Bool) (n i : ℕ) → i < countBelow f n → (k : ℕ) × (k < n) × (f k ≡ true) × (countBelow f k ≡ i)
+unfolding countBelow
+count-hit f zero i l = absurd (omega arith)
+count-hit f (suc n) i l = ⊎-elim
+    (λ (p : countBelow f n ≤ i). hit (f n) refl p)
+    (λ (p : i < countBelow f n). let w = count-hit f n i p in (w .0, omega (arith, w .1), w .2, w .3)) (le-or-lt (countBelow f n) i)
+  where
+    hit : (b : Bool) → f n ≡ b → countBelow f n ≤ i → (k : ℕ) × (k < suc n) × (f k ≡ true) × (countBelow f k ≡ i)
+    hit true e p = (n, omega arith, e, (let m : countBelow f n + 1 ≡ countBelow f n + one (f n) = rw e in omega arith))
+    hit false e p = absurd (let m : countBelow f n + 0 ≡ countBelow f n + one (f n) = rw e in omega arith)
