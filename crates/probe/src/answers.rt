@@ -7,7 +7,7 @@ use clocks::version_vector::VersionAnswer;
 use listing::number::write_number;
 use listing::text::put;
 
-fn decimal(out: &mut [u8], at: usize, n: usize) -> usize {
+pub fn decimal(out: &mut [u8], at: usize, n: usize) -> usize {
     write_number(out, at, n as u64)
 }
 

@@ -7,13 +7,20 @@ mod answers;
 mod clock_words;
 mod dependency_words;
 mod frontier_calls;
+mod graph_answers;
+mod graph_asks;
+mod graph_changes;
+mod graph_lists;
+mod graph_words;
 mod lent;
+mod masks;
 mod session;
+mod state;
 mod tables;
 mod version_calls;
 
 use listing::lines::Held;
-use session::Session;
+use state::State;
 
 // An answer has room: a list of 512 events takes 67 bytes each at most.
 const LONGEST_ANSWER: usize = 40_960;
@@ -21,36 +28,37 @@ const LONGEST_ANSWER: usize = 40_960;
 // What goes from one read to the next.
 struct Progress {
     held: Held,
-    session: Session,
+    state: State,
     ended: bool,
 }
 
 // The place in a piece of the input.
 struct Place {
     held: Held,
-    session: Session,
+    state: State,
     at: usize,
 }
 
 // Writes what is collected.
-fn flush(session: Session, out: &[u8]) -> Session {
-    let at = session.at;
+fn flush(st: State, out: &[u8]) -> State {
+    let s = st.session;
+    let at = s.at;
     if at <= out.len() {
         io::write_all(1, &out[0..at]);
     }
-    session.moved(0)
+    st.moved(0)
 }
 
 // Answers the line that is held. An overlong one is no line.
-fn answer_held(s: Session, held: Held, line: &[u8], out: &mut [u8]) -> Session {
+fn answer_held(st: State, held: Held, line: &[u8], out: &mut [u8]) -> State {
     let n = held.len;
     if held.overlong {
-        return session::refuse_line(s, out);
+        return state::refuse_line(st, out);
     }
     if line.len() < n {
-        return session::refuse_line(s, out);
+        return state::refuse_line(st, out);
     }
-    session::answer(s, &line[0..n], out)
+    session::answer(st, &line[0..n], out)
 }
 
 // The next part of a line, and its answer where the line ends in it. It goes on by one byte at least.
@@ -60,19 +68,19 @@ fn next_part(q: Place, piece: &[u8], line: &mut [u8], out: &mut [u8]) -> Place
     let taken = listing::lines::feed(line, q.held, piece, q.at);
     let held = taken.held;
     if taken.complete {
-        let s = make_room(q.session, out);
-        let session = answer_held(s, held, line, out);
+        let st = make_room(q.state, out);
+        let state = answer_held(st, held, line, out);
         let none = listing::lines::fresh();
         return Place {
             held: none,
-            session,
+            state,
             at: taken.next,
         };
     }
-    let session = q.session;
+    let state = q.state;
     Place {
         held,
-        session,
+        state,
         at: taken.next,
     }
 }
@@ -80,12 +88,8 @@ fn next_part(q: Place, piece: &[u8], line: &mut [u8], out: &mut [u8]) -> Place
 // Answers each line that ends in this piece.
 fn answer_piece(p: Progress, piece: &[u8], line: &mut [u8], out: &mut [u8]) -> Place {
     let held = p.held;
-    let session = p.session;
-    let mut q = Place {
-        held,
-        session,
-        at: 0,
-    };
+    let state = p.state;
+    let mut q = Place { held, state, at: 0 };
     while q.at < piece.len() {
         q = next_part(q, piece, line, out);
     }
@@ -93,14 +97,15 @@ fn answer_piece(p: Progress, piece: &[u8], line: &mut [u8], out: &mut [u8]) -> P
 }
 
 // Room for the longest answer.
-fn make_room(s: Session, out: &[u8]) -> Session {
+fn make_room(st: State, out: &[u8]) -> State {
+    let s = st.session;
     let at = s.at;
     if at <= out.len() {
         if LONGEST_ANSWER <= out.len() - at {
-            return s;
+            return st;
         }
     }
-    flush(s, out)
+    flush(st, out)
 }
 
 // How many bytes one read put at the buffer's start; 0 at the end of the input, or where the read failed.
@@ -125,10 +130,10 @@ fn turn(p: Progress, input: &mut [u8], line: &mut [u8], out: &mut [u8]) -> Progr
 // What a read was answered with is written before the next read, so a driver that waits for answers gets them.
 fn written(q: Place, out: &[u8]) -> Progress {
     let held = q.held;
-    let session = flush(q.session, out);
+    let state = flush(q.state, out);
     Progress {
         held,
-        session,
+        state,
         ended: false,
     }
 }
@@ -137,18 +142,18 @@ fn written(q: Place, out: &[u8]) -> Progress {
 fn last_line(p: Progress, line: &[u8], out: &mut [u8]) -> Progress {
     let held = p.held;
     if held.len == 0 && !held.overlong {
-        return ended(p.session, out);
+        return ended(p.state, out);
     }
-    let s = answer_held(p.session, held, line, out);
-    ended(s, out)
+    let st = answer_held(p.state, held, line, out);
+    ended(st, out)
 }
 
-fn ended(s: Session, out: &[u8]) -> Progress {
+fn ended(st: State, out: &[u8]) -> Progress {
     let held = listing::lines::fresh();
-    let session = flush(s, out);
+    let state = flush(st, out);
     Progress {
         held,
-        session,
+        state,
         ended: true,
     }
 }
@@ -157,7 +162,7 @@ fn ended(s: Session, out: &[u8]) -> Progress {
 fn run(input: &mut [u8], line: &mut [u8], out: &mut [u8]) {
     let mut p = Progress {
         held: listing::lines::fresh(),
-        session: Session::new(),
+        state: State::new(),
         ended: false,
     };
     let mut turns = u64::MAX;

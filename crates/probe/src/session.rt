@@ -1,7 +1,10 @@
 // What the words of all modules share, and which module a word belongs to.
 use crate::answers;
 use crate::clock_words;
+use crate::graph_words;
 use crate::lent::entry;
+use crate::state;
+use crate::state::State;
 use crate::tables::is_run;
 use clocks::refusal::BAD_LINE;
 use listing::text::same;
@@ -66,21 +69,46 @@ fn room(s: Session, kinds: &[u8], values: &[usize], out: &mut [u8]) -> Session {
 }
 
 // One line, taken apart and handed to the module of its word.
-pub fn answer(s: Session, line: &[u8], out: &mut [u8]) -> Session {
-    let mut kinds = [0u8; MOST_TOKENS];
-    let mut values = [0usize; MOST_TOKENS];
+pub fn answer(st: State, line: &[u8], out: &mut [u8]) -> State {
     let end = word_end(line);
-    let parsed = parse(line, end, &mut kinds, &mut values);
-    let Parsed::Tokens(n) = parsed else {
-        return refuse_line(s, out);
-    };
-    if MOST_TOKENS < n {
-        return refuse_line(s, out);
+    if same(&line[0..end], b"g.retain") {
+        return graph_words::retain(st, line, end, out);
     }
-    by_word(s, &line[0..end], &kinds[0..n], &values[0..n], out)
+    by_tokens(st, line, end, out)
 }
 
-fn by_word(s: Session, word: &[u8], kinds: &[u8], values: &[usize], out: &mut [u8]) -> Session {
+fn by_tokens(st: State, line: &[u8], end: usize, out: &mut [u8]) -> State {
+    let mut kinds = [0u8; MOST_TOKENS];
+    let mut values = [0usize; MOST_TOKENS];
+    let parsed = parse(line, end, &mut kinds, &mut values);
+    let Parsed::Tokens(n) = parsed else {
+        return state::refuse_line(st, out);
+    };
+    if MOST_TOKENS < n {
+        return state::refuse_line(st, out);
+    }
+    if line.len() < end {
+        return state::refuse_line(st, out);
+    }
+    by_word(st, &line[0..end], &kinds[0..n], &values[0..n], out)
+}
+
+fn by_word(st: State, word: &[u8], kinds: &[u8], values: &[usize], out: &mut [u8]) -> State {
+    if graph_words::is_graph_word(word) {
+        return graph_words::answer(st, word, kinds, values, out);
+    }
+    let s = by_clock_word(st.session, word, kinds, values, out);
+    let log = st.log;
+    State { session: s, log }
+}
+
+fn by_clock_word(
+    s: Session,
+    word: &[u8],
+    kinds: &[u8],
+    values: &[usize],
+    out: &mut [u8],
+) -> Session {
     if same(word, b"room") {
         return room(s, kinds, values, out);
     }

@@ -51,6 +51,14 @@ pub fn is_run(kinds: &[u8], a: usize, e: usize) -> bool {
     true
 }
 
+// Whether the tokens are so many numbers.
+pub fn is_numbers(kinds: &[u8], n: usize) -> bool {
+    if kinds.len() != n {
+        return false;
+    }
+    is_run(kinds, 0, n)
+}
+
 // Whether the tokens from `a` to `e` are `lead` numbers and a vector.
 pub fn is_led(kinds: &[u8], a: usize, e: usize, lead: usize) -> bool {
     if e < a {
