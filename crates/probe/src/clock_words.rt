@@ -1,4 +1,4 @@
-// The words of PROBE.md, Clocks: each makes one call of `clocks`.
+// The clock words of the line driver: each makes one call of `clocks`.
 use crate::answers;
 use crate::dependency_words::dependencies;
 use crate::frontier_calls;

@@ -1,4 +1,4 @@
-// The words of PROBE.md, Graph, that ask for one value.
+// The graph words of the line driver that ask for one value.
 use crate::answers;
 use crate::graph_answers;
 use crate::tables::Read;

@@ -1,4 +1,4 @@
-// The words of PROBE.md, Graph, that hand back a graph. A refusal's graph is looked at, and kept as it comes, so a change would show in what is asked next too.
+// The graph words of the line driver that hand back a graph. A refusal's graph is looked at, and kept as it comes, so a change would show in what is asked next too.
 use crate::lent::entry;
 use crate::masks::MOST_MASK;
 use crate::masks::Mask;

@@ -1,4 +1,4 @@
-// The list words of PROBE.md, Graph. The buffer is filled with a pattern first; a list is of positions, and each is told as its event.
+// The graph words of the line driver that list. The buffer is filled with a pattern first; a list is of positions, and each is told as its event.
 use crate::answers;
 use crate::graph_answers;
 use crate::lent::PATTERN;

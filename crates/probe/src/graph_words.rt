@@ -1,4 +1,4 @@
-// The words of PROBE.md, Graph: each makes one call of `graph`.
+// The graph words of the line driver: each makes one call of `graph`.
 use crate::answers;
 use crate::graph_asks;
 use crate::graph_changes;
