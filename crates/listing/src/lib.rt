@@ -3,4 +3,3 @@
 pub mod lines;
 pub mod number;
 pub mod text;
-pub mod tokens;

@@ -17,6 +17,7 @@ mod masks;
 mod session;
 mod state;
 mod tables;
+mod tokens;
 mod version_calls;
 
 use listing::lines::Held;

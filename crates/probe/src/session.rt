@@ -6,11 +6,11 @@ use crate::lent::entry;
 use crate::state;
 use crate::state::State;
 use crate::tables::is_run;
+use crate::tokens::Parsed;
+use crate::tokens::parse;
+use crate::tokens::word_end;
 use clocks::refusal::BAD_LINE;
 use listing::text::same;
-use listing::tokens::Parsed;
-use listing::tokens::parse;
-use listing::tokens::word_end;
 
 // No word has more tokens behind it: two vectors, a number before each, and the bar. A keep mask is read in another way.
 const MOST_TOKENS: usize = 64;

@@ -2,6 +2,9 @@
 ghost use Prim.Native.Nat.{_≤_};
 ghost use lib.ListN.{length};
 use crate::lent::entry;
+use crate::tokens::BAR;
+use crate::tokens::DASH;
+use crate::tokens::NUMBER;
 use clocks::causal_frontier::CausalFrontier;
 use clocks::causal_frontier::FrontierAnswer;
 use clocks::id::Disambiguator;
@@ -10,9 +13,6 @@ use clocks::refusal::ACCEPTED;
 use clocks::refusal::BAD_LINE;
 use clocks::replica::ReplicaIdx;
 use listing::text::byte_at;
-use listing::tokens::BAR;
-use listing::tokens::DASH;
-use listing::tokens::NUMBER;
 
 // The most entries that a line may give a vector.
 const MOST_ENTRIES: usize = 16;

@@ -3,8 +3,8 @@ use Prim.Native.Nat.{_-_}
 use mathlib.Core.Path.{_≡_}
 use lib.ListN.{length}
 use borrow.Author.Needs.{needs}
-use Rattle.listing.proofs.tokens.parse.Statement.{statement}
-use Rattle.listing.proofs.tokens.parse.Tie as tie
+use Rattle.probe.proofs.tokens.parse.Statement.{statement}
+use Rattle.probe.proofs.tokens.parse.Tie as tie
 
 abbrev Inv-loop : tie.InvT-loop
 Inv-loop line from kinds₀ values₀ at₀ n₀ kinds values at n = (length kinds ≡ length kinds₀) × (length values ≡ length values₀)
