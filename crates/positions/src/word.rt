@@ -8,7 +8,7 @@ ghost use Rattle.positions.specs.Bits.{isOne, bit, LowZero, BitLength, L
 ghost use Rattle.laws.specs.Counting.{countBelow};
 
 // Sets the bit `k` where the digit `d` is 1, with no branch.
-pub fn with_digit(w: u64, d: u64, k: usize) -> u64
+pub(super) fn with_digit(w: u64, d: u64, k: usize) -> u64
     requires { ⌜ (d < 2) × (k < 64) ⌝ }
     ensures { λ r. ⌜ ((j : ℕ) → bit r j ≡ (bit w j || (isOne d && eqb j k))) ⌝ }
 {
@@ -30,7 +30,7 @@ pub fn without(w: u64, v: u64) -> u64
 }
 
 // The word that starts at bit `s` of `low`, filled up from `high`.
-pub fn lowered(low: u64, high: u64, s: usize) -> u64
+pub(super) fn lowered(low: u64, high: u64, s: usize) -> u64
     requires { ⌜ s < 64 ⌝ }
     ensures { λ r. ⌜ LoweredWord low high s r ⌝ }
 {
