@@ -105,3 +105,20 @@ pub fn plain_id(out: &mut [u8], at: usize, replica: usize, seq: usize) -> usize 
 pub fn changed(out: &mut [u8], at: usize) -> usize {
     put(out, at, b" CHANGED")
 }
+
+// A count after a space, where there is one to tell.
+pub fn counted(out: &mut [u8], at: usize, told: bool, count: usize) -> usize {
+    if told {
+        return spaced(out, at, count);
+    }
+    at
+}
+
+// The line's end, and before it whether anything changed where nothing may.
+pub fn ended(out: &mut [u8], at: usize, is_changed: bool) -> usize {
+    if is_changed {
+        let at = changed(out, at);
+        return line_end(out, at);
+    }
+    line_end(out, at)
+}

@@ -2,8 +2,8 @@
 use crate::answers;
 use crate::graph_answers;
 use crate::lent::PATTERN;
+use crate::lent::ended;
 use crate::lent::entry;
-use crate::lent::is_kept;
 use crate::session::MOST_ROOM;
 use crate::tables::Read;
 use crate::tables::id_at;
@@ -208,13 +208,4 @@ fn held(f: Found, form: usize, out: &mut [u8], at: usize) -> usize {
         return graph_answers::id(out, at, op.id());
     }
     graph_answers::event(out, at, op)
-}
-
-// The line's end, and before it whether anything changed from an entry on.
-fn ended(list: &[usize], from: usize, out: &mut [u8], at: usize) -> usize {
-    if is_kept(list, from) {
-        return answers::line_end(out, at);
-    }
-    let at = answers::changed(out, at);
-    answers::line_end(out, at)
 }

@@ -22,7 +22,7 @@ pub fn answer(st: State, word: &[u8], kinds: &[u8], values: &[usize], out: &mut 
     let log = st.log;
     if graph_changes::is_change(word) {
         let c = graph_changes::called(log, word, kinds, values);
-        return kept(s, c, out);
+        return kept(st, c, out);
     }
     let at = asked(s, log, word, kinds, values, out);
     st.moved(at)
@@ -31,34 +31,16 @@ pub fn answer(st: State, word: &[u8], kinds: &[u8], values: &[usize], out: &mut 
 // `g.retain M`
 pub fn retain(st: State, line: &[u8], from: usize, out: &mut [u8]) -> State {
     let c = graph_changes::retain(st.log, line, from);
-    kept(st.session, c, out)
+    kept(st, c, out)
 }
 
 // What a call changed, told, and the log that it handed back.
-fn kept(s: Session, c: Change, out: &mut [u8]) -> State {
-    let log = c.log;
+fn kept(st: State, c: Change, out: &mut [u8]) -> State {
+    let s = st.session;
     let at = answers::bare(out, s.at, c.refusal);
-    let at = counted(out, at, c.counted, c.count);
-    let at = ended(out, at, c.changed);
-    State {
-        session: s.moved(at),
-        log,
-    }
-}
-
-fn counted(out: &mut [u8], at: usize, told: bool, count: usize) -> usize {
-    if told {
-        return answers::spaced(out, at, count);
-    }
-    at
-}
-
-fn ended(out: &mut [u8], at: usize, changed: bool) -> usize {
-    if changed {
-        let at = answers::changed(out, at);
-        return answers::line_end(out, at);
-    }
-    answers::line_end(out, at)
+    let at = answers::counted(out, at, c.counted, c.count);
+    let at = answers::ended(out, at, c.changed);
+    st.logged(at, c.log)
 }
 
 // The words that leave the graph as it is.

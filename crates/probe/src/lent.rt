@@ -1,4 +1,5 @@
 // Lent lists: read at a place, and looked at after a call.
+use crate::answers;
 
 // What a buffer is filled with before a call: no call answers it.
 pub const PATTERN: usize = 0xA5A5_5A5A_0F0F_3C3C;
@@ -18,4 +19,9 @@ pub fn is_kept(list: &[usize], from: usize) -> bool {
         i += 1;
     }
     true
+}
+
+// The line's end, and before it whether anything changed from an entry on.
+pub fn ended(list: &[usize], from: usize, out: &mut [u8], at: usize) -> usize {
+    answers::ended(out, at, !is_kept(list, from))
 }

@@ -12,14 +12,21 @@ mod graph_asks;
 mod graph_changes;
 mod graph_lists;
 mod graph_words;
+mod history_answers;
+mod history_asks;
+mod history_changes;
+mod history_lists;
+mod history_words;
 mod lent;
 mod masks;
 mod session;
 mod state;
 mod tables;
 mod tokens;
+mod traces;
 mod version_calls;
 
+use clocks::vector::Seq;
 use listing::lines::Held;
 use state::State;
 
@@ -51,7 +58,15 @@ fn flush(st: State, out: &[u8]) -> State {
 }
 
 // Answers the line that is held. An overlong one is no line.
-fn answer_held(st: State, held: Held, line: &[u8], out: &mut [u8]) -> State {
+fn answer_held(
+    st: State,
+    held: Held,
+    line: &[u8],
+    out: &mut [u8],
+    versions: &mut [Seq; 8192],
+    notes: &mut [u64; 1536],
+    boundaries: &mut [Seq; 256],
+) -> State {
     let n = held.len;
     if held.overlong {
         return state::refuse_line(st, out);
@@ -59,18 +74,39 @@ fn answer_held(st: State, held: Held, line: &[u8], out: &mut [u8]) -> State {
     if line.len() < n {
         return state::refuse_line(st, out);
     }
-    session::answer(st, &line[0..n], out)
+    session::answer(st, &line[0..n], out, versions, notes, boundaries)
+}
+
+// The same where the output has room for it.
+fn answer_line(
+    st: State,
+    held: Held,
+    line: &[u8],
+    out: &mut [u8],
+    versions: &mut [Seq; 8192],
+    notes: &mut [u64; 1536],
+    boundaries: &mut [Seq; 256],
+) -> State {
+    let st = make_room(st, out);
+    answer_held(st, held, line, out, versions, notes, boundaries)
 }
 
 // The next part of a line, and its answer where the line ends in it. It goes on by one byte at least.
-fn next_part(q: Place, piece: &[u8], line: &mut [u8], out: &mut [u8]) -> Place
+fn next_part(
+    q: Place,
+    piece: &[u8],
+    line: &mut [u8],
+    out: &mut [u8],
+    versions: &mut [Seq; 8192],
+    notes: &mut [u64; 1536],
+    boundaries: &mut [Seq; 256],
+) -> Place
     ensures { λ r. ⌜ (q .at < length (now (piece .entry)) → q .at < r .at) ⌝ }
 {
     let taken = listing::lines::feed(line, q.held, piece, q.at);
     let held = taken.held;
     if taken.complete {
-        let st = make_room(q.state, out);
-        let state = answer_held(st, held, line, out);
+        let state = answer_line(q.state, held, line, out, versions, notes, boundaries);
         let none = listing::lines::fresh();
         return Place {
             held: none,
@@ -87,12 +123,20 @@ fn next_part(q: Place, piece: &[u8], line: &mut [u8], out: &mut [u8]) -> Place
 }
 
 // Answers each line that ends in this piece.
-fn answer_piece(p: Progress, piece: &[u8], line: &mut [u8], out: &mut [u8]) -> Place {
+fn answer_piece(
+    p: Progress,
+    piece: &[u8],
+    line: &mut [u8],
+    out: &mut [u8],
+    versions: &mut [Seq; 8192],
+    notes: &mut [u64; 1536],
+    boundaries: &mut [Seq; 256],
+) -> Place {
     let held = p.held;
     let state = p.state;
     let mut q = Place { held, state, at: 0 };
     while q.at < piece.len() {
-        q = next_part(q, piece, line, out);
+        q = next_part(q, piece, line, out, versions, notes, boundaries);
     }
     q
 }
@@ -116,15 +160,36 @@ fn read_some(input: &mut [u8]) -> usize {
 }
 
 // One read, and the lines that end in it.
-fn turn(p: Progress, input: &mut [u8], line: &mut [u8], out: &mut [u8]) -> Progress {
+fn turn(
+    p: Progress,
+    input: &mut [u8],
+    line: &mut [u8],
+    out: &mut [u8],
+    versions: &mut [Seq; 8192],
+    notes: &mut [u64; 1536],
+    boundaries: &mut [Seq; 256],
+) -> Progress {
     let n = read_some(input);
     if n == 0 {
-        return last_line(p, line, out);
+        return last_line(p, line, out, versions, notes, boundaries);
     }
     if input.len() < n {
-        return last_line(p, line, out);
+        return last_line(p, line, out, versions, notes, boundaries);
     }
-    let q = answer_piece(p, &input[0..n], line, out);
+    answered(p, &input[0..n], line, out, versions, notes, boundaries)
+}
+
+// The lines that end in a piece, answered and written.
+fn answered(
+    p: Progress,
+    piece: &[u8],
+    line: &mut [u8],
+    out: &mut [u8],
+    versions: &mut [Seq; 8192],
+    notes: &mut [u64; 1536],
+    boundaries: &mut [Seq; 256],
+) -> Progress {
+    let q = answer_piece(p, piece, line, out, versions, notes, boundaries);
     written(q, out)
 }
 
@@ -140,12 +205,19 @@ fn written(q: Place, out: &[u8]) -> Progress {
 }
 
 // At the end of the input: a last line may lack its newline.
-fn last_line(p: Progress, line: &[u8], out: &mut [u8]) -> Progress {
+fn last_line(
+    p: Progress,
+    line: &[u8],
+    out: &mut [u8],
+    versions: &mut [Seq; 8192],
+    notes: &mut [u64; 1536],
+    boundaries: &mut [Seq; 256],
+) -> Progress {
     let held = p.held;
     if held.len == 0 && !held.overlong {
         return ended(p.state, out);
     }
-    let st = answer_held(p.state, held, line, out);
+    let st = answer_held(p.state, held, line, out, versions, notes, boundaries);
     ended(st, out)
 }
 
@@ -160,7 +232,14 @@ fn ended(st: State, out: &[u8]) -> Progress {
 }
 
 // A proved loop has to end, and nothing says that the input does: the turns are counted down from a number that no run uses up.
-fn run(input: &mut [u8], line: &mut [u8], out: &mut [u8]) {
+fn run(
+    input: &mut [u8],
+    line: &mut [u8],
+    out: &mut [u8],
+    versions: &mut [Seq; 8192],
+    notes: &mut [u64; 1536],
+    boundaries: &mut [Seq; 256],
+) {
     let mut p = Progress {
         held: listing::lines::fresh(),
         state: State::new(),
@@ -168,7 +247,7 @@ fn run(input: &mut [u8], line: &mut [u8], out: &mut [u8]) {
     };
     let mut turns = u64::MAX;
     while 0 < turns {
-        p = turn(p, input, line, out);
+        p = turn(p, input, line, out, versions, notes, boundaries);
         if p.ended {
             return;
         }
@@ -180,5 +259,15 @@ fn main() {
     let mut input = io::large_buffer();
     let mut line = io::buffer();
     let mut out = io::large_buffer();
-    run(&mut input, &mut line, &mut out);
+    let mut versions = [0; 8192];
+    let mut notes = [0u64; 1536];
+    let mut boundaries = [0; 256];
+    run(
+        &mut input,
+        &mut line,
+        &mut out,
+        &mut versions,
+        &mut notes,
+        &mut boundaries,
+    );
 }

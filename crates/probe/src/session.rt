@@ -2,6 +2,7 @@
 use crate::answers;
 use crate::clock_words;
 use crate::graph_words;
+use crate::history_words;
 use crate::lent::entry;
 use crate::state;
 use crate::state::State;
@@ -10,6 +11,7 @@ use crate::tokens::Parsed;
 use crate::tokens::parse;
 use crate::tokens::word_end;
 use clocks::refusal::BAD_LINE;
+use clocks::vector::Seq;
 use listing::text::same;
 
 // No word has more tokens behind it: two vectors, a number before each, and the bar. A keep mask is read in another way.
@@ -68,16 +70,34 @@ fn room(s: Session, kinds: &[u8], values: &[usize], out: &mut [u8]) -> Session {
     }
 }
 
-// One line, taken apart and handed to the module of its word.
-pub fn answer(st: State, line: &[u8], out: &mut [u8]) -> State {
+// One line, taken apart and handed to the module of its word. The tables are those of the history.
+pub fn answer(
+    st: State,
+    line: &[u8],
+    out: &mut [u8],
+    versions: &mut [Seq; 8192],
+    notes: &mut [u64; 1536],
+    boundaries: &mut [Seq; 256],
+) -> State {
     let end = word_end(line);
     if same(&line[0..end], b"g.retain") {
         return graph_words::retain(st, line, end, out);
     }
-    by_tokens(st, line, end, out)
+    if same(&line[0..end], b"h.retain") {
+        return history_words::retain(st, line, end, out, versions, boundaries);
+    }
+    by_tokens(st, line, end, out, versions, notes, boundaries)
 }
 
-fn by_tokens(st: State, line: &[u8], end: usize, out: &mut [u8]) -> State {
+fn by_tokens(
+    st: State,
+    line: &[u8],
+    end: usize,
+    out: &mut [u8],
+    versions: &mut [Seq; 8192],
+    notes: &mut [u64; 1536],
+    boundaries: &mut [Seq; 256],
+) -> State {
     let mut kinds = [0u8; MOST_TOKENS];
     let mut values = [0usize; MOST_TOKENS];
     let parsed = parse(line, end, &mut kinds, &mut values);
@@ -90,7 +110,20 @@ fn by_tokens(st: State, line: &[u8], end: usize, out: &mut [u8]) -> State {
     if line.len() < end {
         return state::refuse_line(st, out);
     }
-    by_word(st, &line[0..end], &kinds[0..n], &values[0..n], out)
+    let word = &line[0..end];
+    if history_words::is_history_word(word) {
+        return history_words::answer(
+            st,
+            word,
+            &kinds[0..n],
+            &values[0..n],
+            out,
+            versions,
+            notes,
+            boundaries,
+        );
+    }
+    by_word(st, word, &kinds[0..n], &values[0..n], out)
 }
 
 fn by_word(st: State, word: &[u8], kinds: &[u8], values: &[usize], out: &mut [u8]) -> State {
@@ -99,7 +132,12 @@ fn by_word(st: State, word: &[u8], kinds: &[u8], values: &[usize], out: &mut [u8
     }
     let s = by_clock_word(st.session, word, kinds, values, out);
     let log = st.log;
-    State { session: s, log }
+    let traces = st.traces;
+    State {
+        session: s,
+        log,
+        traces,
+    }
 }
 
 fn by_clock_word(

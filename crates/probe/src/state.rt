@@ -1,6 +1,8 @@
-// The session and the graph beside it. The session is handed to each word, the graph to the words of a graph alone: it is large.
+// The session, and the graph and the history beside it. The session is handed to each word, the graph to the words of a graph alone: it is large.
 use crate::answers;
 use crate::session::Session;
+use crate::traces::Traces;
+use crate::traces::no_traces;
 use clocks::refusal::BAD_LINE;
 use graph::EventGraph;
 
@@ -13,6 +15,7 @@ pub struct Log {
 pub struct State {
     pub session: Session,
     pub log: Log,
+    pub traces: Traces,
 }
 
 // No log yet: its graph is asked nothing.
@@ -27,15 +30,38 @@ impl State {
         State {
             session: Session::new(),
             log: no_log(),
+            traces: no_traces(),
         }
     }
 
     // The same with the output filled up to another place.
     pub fn moved(self, at: usize) -> State {
         let log = self.log;
+        let traces = self.traces;
         State {
             session: self.session.moved(at),
             log,
+            traces,
+        }
+    }
+
+    // The same with another log.
+    pub fn logged(self, at: usize, log: Log) -> State {
+        let traces = self.traces;
+        State {
+            session: self.session.moved(at),
+            log,
+            traces,
+        }
+    }
+
+    // The same with another history.
+    pub fn traced(self, at: usize, traces: Traces) -> State {
+        let log = self.log;
+        State {
+            session: self.session.moved(at),
+            log,
+            traces,
         }
     }
 }

@@ -1,2 +1,3 @@
 -- The proofs of the statements.
 pub mod GraphExampleTable
+pub mod LogOk

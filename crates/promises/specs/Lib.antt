@@ -1,2 +1,4 @@
--- Statements that a reader can check without reading a proof.
+-- Statements about whole logs, and the starred examples.
 pub mod GraphExamples
+pub mod Reached
+pub mod Demand

@@ -8,10 +8,10 @@ use Rattle.probe.proofs.answer_piece.Statement.{statement}
 use Rattle.probe.proofs.answer_piece.Tie as tie
 
 abbrev Inv-loop : tie.InvT-loop
-Inv-loop piece line₀ out₀ q₀ line out q = (length line ≡ length line₀) × (length out ≡ length out₀)
+Inv-loop piece line₀ out₀ versions₀ notes₀ boundaries₀ q₀ line out versions notes boundaries q = (length line ≡ length line₀) × (length out ≡ length out₀)
 
 abbrev μ-loop : tie.MeasureT-loop
-μ-loop piece line₀ out₀ q₀ line out q = length piece - q .at
+μ-loop piece line₀ out₀ versions₀ notes₀ boundaries₀ q₀ line out versions notes boundaries q = length piece - q .at
 
 loop-holds : tie.Need-loop-holds Inv-loop μ-loop
 loop-holds c = search needs
@@ -20,7 +20,7 @@ next-part-requires : tie.Need-next-part-requires Inv-loop μ-loop
 next-part-requires c κs = tt
 
 loop-less : tie.Need-loop-less Inv-loop μ-loop
-loop-less c = let h = c .before .before .before .before .before .before .before .if1 .taken in omega (arith, h, c .before .before .before .before .next-part .ensures h)
+loop-less c = let h = c .before .before .before .before .before .before .before .before .before .before .if1 .taken in omega (arith, h, c .before .before .before .before .next-part .ensures h)
 
 loop-again : tie.Need-loop-again Inv-loop μ-loop
 loop-again c = search needs

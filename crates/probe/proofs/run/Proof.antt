@@ -6,10 +6,10 @@ use Rattle.probe.proofs.run.Statement.{statement}
 use Rattle.probe.proofs.run.Tie as tie
 
 abbrev Inv-loop : tie.InvT-loop
-Inv-loop input₀ line₀ out₀ p₀ turns₀ input line out p turns = (length input ≡ length input₀) × (length line ≡ length line₀) × (length out ≡ length out₀)
+Inv-loop input₀ line₀ out₀ versions₀ notes₀ boundaries₀ p₀ turns₀ input line out versions notes boundaries p turns = (length input ≡ length input₀) × (length line ≡ length line₀) × (length out ≡ length out₀)
 
 abbrev μ-loop : tie.MeasureT-loop
-μ-loop input₀ line₀ out₀ p₀ turns₀ input line out p turns = turns
+μ-loop input₀ line₀ out₀ versions₀ notes₀ boundaries₀ p₀ turns₀ input line out versions notes boundaries p turns = turns
 
 fresh-requires : tie.Need-fresh-requires Inv-loop μ-loop
 fresh-requires c κs = tt

@@ -1,0 +1,66 @@
+-- The turns to come are one less each turn.
+use Prim.Native.Nat.{_≤_, _-_}
+use borrow.Author.Needs.{needs}
+use Rattle.bench.proofs.graphs.port_graph_delivery_order.Statement.{statement}
+use Rattle.bench.proofs.graphs.port_graph_delivery_order.Tie as tie
+
+abbrev Inv-loop : tie.InvT-loop
+Inv-loop rows n queries m rounds g sum₀ k₀ sum k = k ≤ rounds
+
+abbrev μ-loop : tie.MeasureT-loop
+μ-loop rows n queries m rounds g sum₀ k₀ sum k = rounds - k
+
+built-requires : tie.Need-built-requires Inv-loop μ-loop
+built-requires c κs = tt
+
+loop-holds : tie.Need-loop-holds Inv-loop μ-loop
+loop-holds c = search needs
+
+turn-requires : tie.Need-turn-requires Inv-loop μ-loop
+turn-requires c κs = tt
+
+row-requires : tie.Need-row-requires Inv-loop μ-loop
+row-requires c κs = tt
+
+id-requires : tie.Need-id-requires Inv-loop μ-loop
+id-requires c κs = tt
+
+delivery-order-requires : tie.Need-delivery-order-requires Inv-loop μ-loop
+delivery-order-requires c κs = tt
+
+placed-requires : tie.Need-placed-requires Inv-loop μ-loop
+placed-requires c κs = tt
+
+wrapping-add-usize-requires : tie.Need-wrapping-add-usize-requires Inv-loop μ-loop
+wrapping-add-usize-requires c κs = tt
+
+add-k : tie.Need-add-k Inv-loop μ-loop
+add-k c = search needs
+
+loop-less : tie.Need-loop-less Inv-loop μ-loop
+loop-less c = search needs
+
+loop-again : tie.Need-loop-again Inv-loop μ-loop
+loop-again c = search needs
+
+returns : tie.Need-returns Inv-loop μ-loop
+returns c = search needs
+
+pub port-graph-delivery-order-spec : {M : Type 1} → statement M
+port-graph-delivery-order-spec =
+    tie.close
+    (tie.spec
+    Inv-loop
+    μ-loop
+    built-requires
+    loop-holds
+    turn-requires
+    row-requires
+    id-requires
+    delivery-order-requires
+    placed-requires
+    wrapping-add-usize-requires
+    add-k
+    loop-less
+    loop-again
+    returns)

@@ -1,0 +1,72 @@
+-- The turns to come are one less each turn.
+use Prim.Native.Nat.{_≤_, _-_}
+use mathlib.Core.Path.{_≡_}
+use lib.ListN.{length}
+use borrow.Author.Needs.{needs}
+use Rattle.bench.proofs.graphs.port_graph_predecessors.Statement.{statement}
+use Rattle.bench.proofs.graphs.port_graph_predecessors.Tie as tie
+
+abbrev Inv-loop : tie.InvT-loop
+Inv-loop rows n queries m rounds out₀ g sum₀ k₀ out sum k = (k ≤ rounds) × (length out ≡ length out₀)
+
+abbrev μ-loop : tie.MeasureT-loop
+μ-loop rows n queries m rounds out₀ g sum₀ k₀ out sum k = rounds - k
+
+built-requires : tie.Need-built-requires Inv-loop μ-loop
+built-requires c κs = tt
+
+loop-holds : tie.Need-loop-holds Inv-loop μ-loop
+loop-holds c = search needs
+
+turn-requires : tie.Need-turn-requires Inv-loop μ-loop
+turn-requires c κs = tt
+
+row-requires : tie.Need-row-requires Inv-loop μ-loop
+row-requires c κs = tt
+
+version-requires : tie.Need-version-requires Inv-loop μ-loop
+version-requires c κs = tt
+
+predecessors-requires : tie.Need-predecessors-requires Inv-loop μ-loop
+predecessors-requires c κs = tt
+
+counted-requires : tie.Need-counted-requires Inv-loop μ-loop
+counted-requires c κs = tt
+
+wrapping-add-usize-requires : tie.Need-wrapping-add-usize-requires Inv-loop μ-loop
+wrapping-add-usize-requires c κs = tt
+
+add-k : tie.Need-add-k Inv-loop μ-loop
+add-k c = search needs
+
+loop-less : tie.Need-loop-less Inv-loop μ-loop
+loop-less c = search needs
+
+loop-again : tie.Need-loop-again Inv-loop μ-loop
+loop-again c = search needs
+
+same-length : tie.Need-same-length Inv-loop μ-loop
+same-length c = search needs
+
+returns : tie.Need-returns Inv-loop μ-loop
+returns c = search needs
+
+pub port-graph-predecessors-spec : {M : Type 1} → statement M
+port-graph-predecessors-spec =
+    tie.close
+    (tie.spec
+    Inv-loop
+    μ-loop
+    built-requires
+    loop-holds
+    turn-requires
+    row-requires
+    version-requires
+    predecessors-requires
+    counted-requires
+    wrapping-add-usize-requires
+    add-k
+    loop-less
+    loop-again
+    same-length
+    returns)

@@ -1,0 +1,57 @@
+// Notes as rows of numbers, which the benchmark lends: origin, sequence, Lamport number, payload, then a version of 16 entries.
+use clocks::event::Event;
+use clocks::id::EventId;
+use clocks::replica::ReplicaIdx;
+
+const ROW: usize = 20;
+
+// Row i; nothing where there is none.
+pub fn row<'a>(rows: &'a [usize], i: usize) -> &'a [usize] {
+    if 65_536 <= i {
+        return &rows[0..0];
+    }
+    let at = ROW * i;
+    if rows.len() < at + ROW {
+        return &rows[0..0];
+    }
+    &rows[at..at + ROW]
+}
+
+// Which of m rows the turn k takes, in turn.
+pub fn turn(k: usize, m: usize) -> usize {
+    if m == 0 {
+        return 0;
+    }
+    k % m
+}
+
+fn entry(row: &[usize], i: usize) -> usize {
+    if i < row.len() { row[i] } else { 0 }
+}
+
+pub fn id(row: &[usize]) -> EventId {
+    EventId::new(ReplicaIdx(entry(row, 0)), entry(row, 1))
+}
+
+fn wide(n: usize) -> u64 {
+    n as u64
+}
+
+pub fn event(row: &[usize]) -> Event {
+    Event::new(id(row), wide(entry(row, 2)), wide(entry(row, 3)))
+}
+
+pub fn replica(row: &[usize]) -> ReplicaIdx {
+    ReplicaIdx(entry(row, 0))
+}
+
+pub fn seq(row: &[usize]) -> usize {
+    entry(row, 1)
+}
+
+pub fn version<'a>(row: &'a [usize]) -> &'a [usize] {
+    if row.len() < ROW {
+        return &row[0..0];
+    }
+    &row[4..ROW]
+}

@@ -1,0 +1,44 @@
+-- On every history that calls reached: versions never fall, and the number held is what was accepted less what was removed.
+use mathlib.Core.Bool.{true}
+use mathlib.Core.List.{List}
+use mathlib.Core.Path.{_≡_}
+use Prim.Native.Nat.{ℕ, _+_, _≤_}
+use native.Mathlib.Omega.{arith}
+use Rattle.laws.specs.Counting.{sumBelow}
+use Rattle.clocks.specs.Vectors.{entry}
+use Rattle.history.specs.Traces.{replicas, lastOf, retainedOf, held, versionRow, heldCount}
+use Rattle.history.proofs.Traces.{held-tells, held-in}
+use Rattle.history.proofs.Counts.{held-exact}
+use Rattle.observation.specs.Reached.{Versions, Reached}
+use Rattle.history.specs.declared.event_history.EventHistory.{EventHistory}
+use Rattle.observation.proofs.Kept.{reached-kept}
+
+module _ {h : EventHistory} {versions notes boundaries : List ℕ} {W : Versions} {accepted gone : ℕ} (w : Reached h versions notes boundaries W accepted gone) where
+  -- of all that were accepted, retained or not
+  pub versions-rise : (r s t i : ℕ) → 1 ≤ s → s ≤ t → t ≤ lastOf h r → entry (W r s) i ≤ entry (W r t) i
+  versions-rise = reached-kept w .carried .rises
+
+  -- and so of the rows of two retained events
+  pub rows-rise : (r s t i : ℕ) → held h r s ≡ true → held h r t ≡ true → s ≤ t → entry (versionRow h versions r s) i ≤ entry (versionRow h versions r t) i
+  rows-rise r s t i a b l =
+      let c = reached-kept w .carried in
+      rw (c .rows r s a, c .rows r t b) (c .rises r s t i (held-in h r s a .1) l (held-tells h r t b .2))
+
+  -- the row of a retained event is the version that it was accepted with
+  pub row-is : (r s : ℕ) → held h r s ≡ true → versionRow h versions r s ≡ W r s
+  row-is = reached-kept w .carried .rows
+
+  -- a version's own entry is the sequence
+  pub own-entry : (r s : ℕ) → 1 ≤ s → s ≤ lastOf h r → entry (W r s) r ≡ s
+  own-entry = reached-kept w .carried .own
+
+  -- the number that `len` answers is the sum of what each replica retains: no wrap
+  pub count-is : heldCount h ≡ sumBelow (retainedOf h) (replicas h)
+  count-is = held-exact h (reached-kept w .ok)
+
+  -- with what is gone it is all that was accepted
+  pub count-balance : heldCount h + gone ≡ accepted
+  count-balance = reached-kept w .count
+
+  pub held-balance : sumBelow (retainedOf h) (replicas h) + gone ≡ accepted
+  held-balance = omega (arith, count-is, count-balance)

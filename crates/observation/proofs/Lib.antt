@@ -1,0 +1,10 @@
+-- What every call keeps: the tables carry the accepted versions. From it, what the answers mean: rising versions and counts, `previous`, `next`,
+-- `newly_observed_by`.
+pub mod Carried
+pub mod CarriedAppends
+pub mod CarriedPrunes
+pub mod Kept
+pub mod Held
+pub mod Previous
+pub mod Next
+pub mod Newly
