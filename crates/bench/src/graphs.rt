@@ -1,10 +1,10 @@
 // The graph's side of the benchmark: each function makes a graph of the rows that it is lent, makes one call so many times, and adds up what came back.
+use crate::rows::asked;
+use crate::rows::counted;
 use crate::rows::event;
 use crate::rows::id;
 use crate::rows::row;
-use crate::rows::turn;
 use crate::rows::version;
-use clocks::refusal::Listed;
 use graph::EventGraph;
 use graph::Found;
 use graph::Order;
@@ -30,13 +30,6 @@ fn told(t: Told) -> usize {
         Told::Yes => 1,
         Told::No => 0,
         Told::Refused(r) => r,
-    }
-}
-
-fn counted(l: Listed) -> usize {
-    match l {
-        Listed::Count(n) => n,
-        Listed::Refused(r) => r,
     }
 }
 
@@ -74,7 +67,7 @@ pub extern "C" fn port_graph_greatest(
     let g = built(rows, n);
     let mut sum: usize = 0;
     for k in 0..rounds {
-        let f = g.greatest_critical_frontier(version(row(queries, turn(k, m))));
+        let f = g.greatest_critical_frontier(version(asked(queries, k, m)));
         sum = std::num::wrapping_add_usize(sum, flag(f.found));
     }
     sum
@@ -91,10 +84,7 @@ pub extern "C" fn port_graph_is_critical(
     let g = built(rows, n);
     let mut sum: usize = 0;
     for k in 0..rounds {
-        sum = std::num::wrapping_add_usize(
-            sum,
-            told(g.is_critical(version(row(queries, turn(k, m))))),
-        );
+        sum = std::num::wrapping_add_usize(sum, told(g.is_critical(version(asked(queries, k, m)))));
     }
     sum
 }
@@ -111,10 +101,7 @@ pub extern "C" fn port_graph_predecessors(
     let g = built(rows, n);
     let mut sum: usize = 0;
     for k in 0..rounds {
-        sum = std::num::wrapping_add_usize(
-            sum,
-            counted(g.predecessors(version(row(queries, turn(k, m))), out)),
-        );
+        sum = counted(sum, g.predecessors(version(asked(queries, k, m)), out));
     }
     sum
 }
@@ -131,10 +118,7 @@ pub extern "C" fn port_graph_concurrent(
     let g = built(rows, n);
     let mut sum: usize = 0;
     for k in 0..rounds {
-        sum = std::num::wrapping_add_usize(
-            sum,
-            counted(g.concurrent(version(row(queries, turn(k, m))), out)),
-        );
+        sum = counted(sum, g.concurrent(version(asked(queries, k, m)), out));
     }
     sum
 }
@@ -149,7 +133,7 @@ pub extern "C" fn port_graph_frontier(
     let g = built(rows, n);
     let mut sum: usize = 0;
     for k in 0..rounds {
-        sum = std::num::wrapping_add_usize(sum, counted(g.frontier(out)));
+        sum = counted(sum, g.frontier(out));
     }
     sum
 }
@@ -166,10 +150,7 @@ pub extern "C" fn port_graph_direct_predecessors(
     let g = built(rows, n);
     let mut sum: usize = 0;
     for k in 0..rounds {
-        sum = std::num::wrapping_add_usize(
-            sum,
-            counted(g.direct_predecessors(id(row(queries, turn(k, m))), out)),
-        );
+        sum = counted(sum, g.direct_predecessors(id(asked(queries, k, m)), out));
     }
     sum
 }
@@ -185,7 +166,7 @@ pub extern "C" fn port_graph_get(
     let g = built(rows, n);
     let mut sum: usize = 0;
     for k in 0..rounds {
-        sum = std::num::wrapping_add_usize(sum, found(g.get(id(row(queries, turn(k, m))))));
+        sum = std::num::wrapping_add_usize(sum, found(g.get(id(asked(queries, k, m)))));
     }
     sum
 }
@@ -201,10 +182,7 @@ pub extern "C" fn port_graph_delivery_order(
     let g = built(rows, n);
     let mut sum: usize = 0;
     for k in 0..rounds {
-        sum = std::num::wrapping_add_usize(
-            sum,
-            placed(g.delivery_order(id(row(queries, turn(k, m))))),
-        );
+        sum = std::num::wrapping_add_usize(sum, placed(g.delivery_order(id(asked(queries, k, m)))));
     }
     sum
 }
@@ -231,7 +209,7 @@ pub extern "C" fn port_graph_flush(
     let g = built(rows, n);
     let mut sum: usize = 0;
     for k in 0..rounds {
-        let r = g.prune_predecessors(version(row(queries, turn(k, m))));
+        let r = g.prune_predecessors(version(asked(queries, k, m)));
         sum = std::num::wrapping_add_usize(sum, r.count);
     }
     sum
@@ -248,7 +226,7 @@ pub extern "C" fn port_graph_remove(
     let g = built(rows, n);
     let mut sum: usize = 0;
     for k in 0..rounds {
-        let r = g.remove(id(row(queries, turn(k, m))));
+        let r = g.remove(id(asked(queries, k, m)));
         sum = std::num::wrapping_add_usize(sum, r.count);
     }
     sum
@@ -261,17 +239,6 @@ pub extern "C" fn port_graph_retain(rows: &[usize], n: usize, mask: &[u8], round
     for k in 0..rounds {
         let r = g.retain(mask);
         sum = std::num::wrapping_add_usize(sum, r.count);
-    }
-    sum
-}
-
-// One copy of the state, as each call makes one: what is asked is a number that a field has.
-#[no_mangle]
-pub extern "C" fn port_graph_copy(rows: &[usize], n: usize, rounds: usize) -> usize {
-    let g = built(rows, n);
-    let mut sum: usize = 0;
-    for k in 0..rounds {
-        sum = std::num::wrapping_add_usize(sum, g.len());
     }
     sum
 }

@@ -1,3 +1,4 @@
-// The port's side of the benchmark, for a program of Rust to link: see bench/.
+// The port's side of the benchmark, for a program of Rust to link: oracle/bench is the other side.
 pub mod graphs;
+pub mod histories;
 mod rows;

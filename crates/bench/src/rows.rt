@@ -1,6 +1,7 @@
 // Notes as rows of numbers, which the benchmark lends: origin, sequence, Lamport number, payload, then a version of 16 entries.
 use clocks::event::Event;
 use clocks::id::EventId;
+use clocks::refusal::Listed;
 use clocks::replica::ReplicaIdx;
 
 const ROW: usize = 20;
@@ -17,12 +18,17 @@ pub fn row<'a>(rows: &'a [usize], i: usize) -> &'a [usize] {
     &rows[at..at + ROW]
 }
 
-// Which of m rows the turn k takes, in turn.
-pub fn turn(k: usize, m: usize) -> usize {
+// The row that the turn k takes, of m in turn.
+pub fn asked<'a>(rows: &'a [usize], k: usize, m: usize) -> &'a [usize] {
     if m == 0 {
-        return 0;
+        return row(rows, 0);
     }
-    k % m
+    row(rows, k % m)
+}
+
+// The desk that the turn k takes: in turn another one than the note that it takes, and now and then the same.
+pub fn desk(k: usize) -> ReplicaIdx {
+    ReplicaIdx(k / 3 % 16)
 }
 
 fn entry(row: &[usize], i: usize) -> usize {
@@ -54,4 +60,12 @@ pub fn version<'a>(row: &'a [usize]) -> &'a [usize] {
         return &row[0..0];
     }
     &row[4..ROW]
+}
+
+// More by the number that was listed.
+pub fn counted(sum: usize, l: Listed) -> usize {
+    match l {
+        Listed::Count(n) => std::num::wrapping_add_usize(sum, n),
+        Listed::Refused(r) => std::num::wrapping_add_usize(sum, r),
+    }
 }

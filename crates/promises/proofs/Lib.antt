@@ -1,3 +1,19 @@
--- The proofs of the statements.
-pub mod GraphExampleTable
+-- The proofs of the statements: on every reached graph what is documented holds, two logs agree, and the starred examples.
 pub mod LogOk
+pub mod AppendLog
+pub mod RemainLog
+pub mod ReachedLog
+pub mod Documented
+pub mod DocumentedFrontiers
+pub mod DocumentedVersions
+pub mod DocumentedFlush
+pub mod ReachedDocumented
+pub mod Pigeonhole
+pub mod Matching
+pub mod AgreeCuts
+pub mod Agreement
+pub mod WhatIsHeld
+pub mod HeldAppends
+pub mod HeldFlushes
+pub mod Demand3
+pub mod GraphExampleTable

@@ -16,11 +16,8 @@ built-requires c κs = tt
 loop-holds : tie.Need-loop-holds Inv-loop μ-loop
 loop-holds c = search needs
 
-turn-requires : tie.Need-turn-requires Inv-loop μ-loop
-turn-requires c κs = tt
-
-row-requires : tie.Need-row-requires Inv-loop μ-loop
-row-requires c κs = tt
+asked-requires : tie.Need-asked-requires Inv-loop μ-loop
+asked-requires c κs = tt
 
 id-requires : tie.Need-id-requires Inv-loop μ-loop
 id-requires c κs = tt
@@ -54,8 +51,7 @@ port-graph-delivery-order-spec =
     μ-loop
     built-requires
     loop-holds
-    turn-requires
-    row-requires
+    asked-requires
     id-requires
     delivery-order-requires
     placed-requires

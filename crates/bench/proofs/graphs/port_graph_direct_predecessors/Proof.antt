@@ -18,11 +18,8 @@ built-requires c κs = tt
 loop-holds : tie.Need-loop-holds Inv-loop μ-loop
 loop-holds c = search needs
 
-turn-requires : tie.Need-turn-requires Inv-loop μ-loop
-turn-requires c κs = tt
-
-row-requires : tie.Need-row-requires Inv-loop μ-loop
-row-requires c κs = tt
+asked-requires : tie.Need-asked-requires Inv-loop μ-loop
+asked-requires c κs = tt
 
 id-requires : tie.Need-id-requires Inv-loop μ-loop
 id-requires c κs = tt
@@ -32,9 +29,6 @@ direct-predecessors-requires c κs = tt
 
 counted-requires : tie.Need-counted-requires Inv-loop μ-loop
 counted-requires c κs = tt
-
-wrapping-add-usize-requires : tie.Need-wrapping-add-usize-requires Inv-loop μ-loop
-wrapping-add-usize-requires c κs = tt
 
 add-k : tie.Need-add-k Inv-loop μ-loop
 add-k c = search needs
@@ -59,12 +53,10 @@ port-graph-direct-predecessors-spec =
     μ-loop
     built-requires
     loop-holds
-    turn-requires
-    row-requires
+    asked-requires
     id-requires
     direct-predecessors-requires
     counted-requires
-    wrapping-add-usize-requires
     add-k
     loop-less
     loop-again

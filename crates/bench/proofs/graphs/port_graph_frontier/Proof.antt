@@ -24,9 +24,6 @@ frontier-requires c κs = tt
 counted-requires : tie.Need-counted-requires Inv-loop μ-loop
 counted-requires c κs = tt
 
-wrapping-add-usize-requires : tie.Need-wrapping-add-usize-requires Inv-loop μ-loop
-wrapping-add-usize-requires c κs = tt
-
 add-k : tie.Need-add-k Inv-loop μ-loop
 add-k c = search needs
 
@@ -52,7 +49,6 @@ port-graph-frontier-spec =
     loop-holds
     frontier-requires
     counted-requires
-    wrapping-add-usize-requires
     add-k
     loop-less
     loop-again

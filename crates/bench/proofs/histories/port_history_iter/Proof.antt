@@ -1,14 +1,16 @@
 -- The turns to come are one less each turn.
 use Prim.Native.Nat.{_≤_, _-_}
+use mathlib.Core.Path.{_≡_}
+use lib.ListN.{length}
 use borrow.Author.Needs.{needs}
-use Rattle.bench.proofs.graphs.port_graph_copy.Statement.{statement}
-use Rattle.bench.proofs.graphs.port_graph_copy.Tie as tie
+use Rattle.bench.proofs.histories.port_history_iter.Statement.{statement}
+use Rattle.bench.proofs.histories.port_history_iter.Tie as tie
 
 abbrev Inv-loop : tie.InvT-loop
-Inv-loop rows n rounds g sum₀ k₀ sum k = k ≤ rounds
+Inv-loop rows n rounds out₀ h sum₀ k₀ out sum k = (k ≤ rounds) × (length out ≡ length out₀)
 
 abbrev μ-loop : tie.MeasureT-loop
-μ-loop rows n rounds g sum₀ k₀ sum k = rounds - k
+μ-loop rows n rounds out₀ h sum₀ k₀ out sum k = rounds - k
 
 built-requires : tie.Need-built-requires Inv-loop μ-loop
 built-requires c κs = tt
@@ -16,11 +18,11 @@ built-requires c κs = tt
 loop-holds : tie.Need-loop-holds Inv-loop μ-loop
 loop-holds c = search needs
 
-len-requires : tie.Need-len-requires Inv-loop μ-loop
-len-requires c κs = tt
+iter-requires : tie.Need-iter-requires Inv-loop μ-loop
+iter-requires c κs = tt
 
-wrapping-add-usize-requires : tie.Need-wrapping-add-usize-requires Inv-loop μ-loop
-wrapping-add-usize-requires c κs = tt
+counted-requires : tie.Need-counted-requires Inv-loop μ-loop
+counted-requires c κs = tt
 
 add-k : tie.Need-add-k Inv-loop μ-loop
 add-k c = search needs
@@ -31,20 +33,24 @@ loop-less c = search needs
 loop-again : tie.Need-loop-again Inv-loop μ-loop
 loop-again c = search needs
 
+same-length : tie.Need-same-length Inv-loop μ-loop
+same-length c = search needs
+
 returns : tie.Need-returns Inv-loop μ-loop
 returns c = search needs
 
-pub port-graph-copy-spec : {M : Type 1} → statement M
-port-graph-copy-spec =
+pub port-history-iter-spec : {M : Type 1} → statement M
+port-history-iter-spec =
     tie.close
     (tie.spec
     Inv-loop
     μ-loop
     built-requires
     loop-holds
-    len-requires
-    wrapping-add-usize-requires
+    iter-requires
+    counted-requires
     add-k
     loop-less
     loop-again
+    same-length
     returns)

@@ -1,0 +1,50 @@
+-- The turns to come are one less each turn.
+use Prim.Native.Nat.{_≤_, _-_}
+use borrow.Author.Needs.{needs}
+use Rattle.bench.proofs.histories.port_history_append.Statement.{statement}
+use Rattle.bench.proofs.histories.port_history_append.Tie as tie
+
+abbrev Inv-loop : tie.InvT-loop
+Inv-loop rows n rounds versions₀ notes₀ boundaries sum₀ k₀ versions notes sum k = k ≤ rounds
+
+abbrev μ-loop : tie.MeasureT-loop
+μ-loop rows n rounds versions₀ notes₀ boundaries sum₀ k₀ versions notes sum k = rounds - k
+
+loop-holds : tie.Need-loop-holds Inv-loop μ-loop
+loop-holds c = search needs
+
+built-requires : tie.Need-built-requires Inv-loop μ-loop
+built-requires c κs = tt
+
+len-requires : tie.Need-len-requires Inv-loop μ-loop
+len-requires c κs = tt
+
+wrapping-add-usize-requires : tie.Need-wrapping-add-usize-requires Inv-loop μ-loop
+wrapping-add-usize-requires c κs = tt
+
+add-k : tie.Need-add-k Inv-loop μ-loop
+add-k c = search needs
+
+loop-less : tie.Need-loop-less Inv-loop μ-loop
+loop-less c = search needs
+
+loop-again : tie.Need-loop-again Inv-loop μ-loop
+loop-again c = search needs
+
+returns : tie.Need-returns Inv-loop μ-loop
+returns c = search needs
+
+pub port-history-append-spec : {M : Type 1} → statement M
+port-history-append-spec =
+    tie.close
+    (tie.spec
+    Inv-loop
+    μ-loop
+    loop-holds
+    built-requires
+    len-requires
+    wrapping-add-usize-requires
+    add-k
+    loop-less
+    loop-again
+    returns)

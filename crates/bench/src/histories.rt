@@ -1,0 +1,273 @@
+// The history's side of the benchmark: each function makes a history of the rows that it is lent, makes one call so many times, and adds up what came back.
+use crate::rows::asked;
+use crate::rows::counted;
+use crate::rows::desk;
+use crate::rows::event;
+use crate::rows::id;
+use crate::rows::replica;
+use crate::rows::row;
+use crate::rows::seq;
+use crate::rows::version;
+use clocks::vector::Seq;
+use history::event_history::EventHistory;
+use history::event_history::Found;
+
+fn built(
+    rows: &[usize],
+    n: usize,
+    versions: &mut [Seq; 8192],
+    notes: &mut [u64; 1536],
+    boundaries: &[Seq; 256],
+) -> EventHistory {
+    let a = EventHistory::new(16);
+    let mut h = a.history;
+    for i in 0..n {
+        let note = row(rows, i);
+        let a = h.append(event(note), version(note), versions, notes, boundaries);
+        h = a.history;
+    }
+    h
+}
+
+// One more where something was found.
+fn found(sum: usize, f: Found) -> usize {
+    match f {
+        Found::Op(op) => std::num::wrapping_add_usize(sum, 1),
+        Found::Nothing => sum,
+    }
+}
+
+#[no_mangle]
+pub extern "C" fn port_history_append(rows: &[usize], n: usize, rounds: usize) -> usize {
+    let mut versions = [0; 8192];
+    let mut notes = [0u64; 1536];
+    let boundaries = [0; 256];
+    let mut sum: usize = 0;
+    for k in 0..rounds {
+        let h = built(rows, n, &mut versions, &mut notes, &boundaries);
+        sum = std::num::wrapping_add_usize(sum, h.len());
+    }
+    sum
+}
+
+#[no_mangle]
+pub extern "C" fn port_history_get(
+    rows: &[usize],
+    n: usize,
+    queries: &[usize],
+    m: usize,
+    rounds: usize,
+) -> usize {
+    let mut versions = [0; 8192];
+    let mut notes = [0u64; 1536];
+    let boundaries = [0; 256];
+    let h = built(rows, n, &mut versions, &mut notes, &boundaries);
+    let mut sum: usize = 0;
+    for k in 0..rounds {
+        sum = found(sum, h.get(id(asked(queries, k, m)), &notes));
+    }
+    sum
+}
+
+#[no_mangle]
+pub extern "C" fn port_history_version(
+    rows: &[usize],
+    n: usize,
+    queries: &[usize],
+    m: usize,
+    rounds: usize,
+) -> usize {
+    let mut versions = [0; 8192];
+    let mut notes = [0u64; 1536];
+    let boundaries = [0; 256];
+    let h = built(rows, n, &mut versions, &mut notes, &boundaries);
+    let mut sum: usize = 0;
+    for k in 0..rounds {
+        sum = std::num::wrapping_add_usize(
+            sum,
+            h.version(id(asked(queries, k, m)), &notes, &versions).len(),
+        );
+    }
+    sum
+}
+
+#[no_mangle]
+pub extern "C" fn port_history_previous(
+    rows: &[usize],
+    n: usize,
+    queries: &[usize],
+    m: usize,
+    rounds: usize,
+) -> usize {
+    let mut versions = [0; 8192];
+    let mut notes = [0u64; 1536];
+    let boundaries = [0; 256];
+    let h = built(rows, n, &mut versions, &mut notes, &boundaries);
+    previous_rounds(h, queries, m, rounds, &notes, &versions)
+}
+
+fn previous_rounds(
+    h: EventHistory,
+    queries: &[usize],
+    m: usize,
+    rounds: usize,
+    notes: &[u64; 1536],
+    versions: &[Seq; 8192],
+) -> usize {
+    let mut sum: usize = 0;
+    for k in 0..rounds {
+        sum = found(
+            sum,
+            h.previous(id(asked(queries, k, m)), desk(k), notes, versions),
+        );
+    }
+    sum
+}
+
+#[no_mangle]
+pub extern "C" fn port_history_next(
+    rows: &[usize],
+    n: usize,
+    queries: &[usize],
+    m: usize,
+    rounds: usize,
+) -> usize {
+    let mut versions = [0; 8192];
+    let mut notes = [0u64; 1536];
+    let boundaries = [0; 256];
+    let h = built(rows, n, &mut versions, &mut notes, &boundaries);
+    next_rounds(h, queries, m, rounds, &versions, &notes)
+}
+
+fn next_rounds(
+    h: EventHistory,
+    queries: &[usize],
+    m: usize,
+    rounds: usize,
+    versions: &[Seq; 8192],
+    notes: &[u64; 1536],
+) -> usize {
+    let mut sum: usize = 0;
+    for k in 0..rounds {
+        sum = found(
+            sum,
+            h.next(id(asked(queries, k, m)), desk(k), versions, notes),
+        );
+    }
+    sum
+}
+
+#[no_mangle]
+pub extern "C" fn port_history_predecessors(
+    rows: &[usize],
+    n: usize,
+    queries: &[usize],
+    m: usize,
+    rounds: usize,
+    out: &mut [usize],
+) -> usize {
+    let mut versions = [0; 8192];
+    let mut notes = [0u64; 1536];
+    let boundaries = [0; 256];
+    let h = built(rows, n, &mut versions, &mut notes, &boundaries);
+    let mut sum: usize = 0;
+    for k in 0..rounds {
+        sum = counted(sum, h.predecessors(version(asked(queries, k, m)), out));
+    }
+    sum
+}
+
+#[no_mangle]
+pub extern "C" fn port_history_concurrent(
+    rows: &[usize],
+    n: usize,
+    queries: &[usize],
+    m: usize,
+    rounds: usize,
+    out: &mut [usize],
+) -> usize {
+    let mut versions = [0; 8192];
+    let mut notes = [0u64; 1536];
+    let boundaries = [0; 256];
+    let h = built(rows, n, &mut versions, &mut notes, &boundaries);
+    let mut sum: usize = 0;
+    for k in 0..rounds {
+        sum = counted(sum, h.concurrent(version(asked(queries, k, m)), out));
+    }
+    sum
+}
+
+#[no_mangle]
+pub extern "C" fn port_history_iter(
+    rows: &[usize],
+    n: usize,
+    rounds: usize,
+    out: &mut [usize],
+) -> usize {
+    let mut versions = [0; 8192];
+    let mut notes = [0u64; 1536];
+    let boundaries = [0; 256];
+    let h = built(rows, n, &mut versions, &mut notes, &boundaries);
+    let mut sum: usize = 0;
+    for k in 0..rounds {
+        sum = counted(sum, h.iter(out));
+    }
+    sum
+}
+
+#[no_mangle]
+pub extern "C" fn port_history_replica_events(
+    rows: &[usize],
+    n: usize,
+    queries: &[usize],
+    m: usize,
+    rounds: usize,
+    out: &mut [usize],
+) -> usize {
+    let mut versions = [0; 8192];
+    let mut notes = [0u64; 1536];
+    let boundaries = [0; 256];
+    let h = built(rows, n, &mut versions, &mut notes, &boundaries);
+    let mut sum: usize = 0;
+    for k in 0..rounds {
+        let note = asked(queries, k, m);
+        sum = counted(sum, h.replica_events(replica(note), 0, seq(note), out));
+    }
+    sum
+}
+
+#[no_mangle]
+pub extern "C" fn port_history_newly(
+    rows: &[usize],
+    n: usize,
+    queries: &[usize],
+    m: usize,
+    rounds: usize,
+    out: &mut [usize],
+) -> usize {
+    let mut versions = [0; 8192];
+    let mut notes = [0u64; 1536];
+    let boundaries = [0; 256];
+    let h = built(rows, n, &mut versions, &mut notes, &boundaries);
+    newly_rounds(h, queries, m, rounds, &notes, &versions, &boundaries, out)
+}
+
+fn newly_rounds<'a>(
+    h: EventHistory,
+    queries: &[usize],
+    m: usize,
+    rounds: usize,
+    notes: &[u64; 1536],
+    versions: &'a [Seq; 8192],
+    boundaries: &'a [Seq; 256],
+    out: &mut [usize],
+) -> usize {
+    let mut sum: usize = 0;
+    for k in 0..rounds {
+        sum = counted(
+            sum,
+            h.newly_observed_by(id(asked(queries, k, m)), notes, versions, boundaries, out),
+        );
+    }
+    sum
+}

@@ -1,0 +1,94 @@
+-- Descent, parents, heads and cuts are what the documents say, over positions and versions.
+use mathlib.Core.Bool.{true, false, true≢false}
+use mathlib.Core.Logic.{_↔_, ⊎-elim}
+use mathlib.Core.Path.{_≡_, sym, _∙_}
+use Prim.Native.Nat.{ℕ, suc, _<_}
+use native.Mathlib.Omega.{arith}
+use lib.Dec.{leb, ltb}
+use borrow.Author.Tests.{lt-ltb, le-leb, leb-true}
+use Rattle.laws.proofs.Orders.{and-both, true-or-false}
+use Rattle.clocks.specs.Vectors.{entry}
+use Rattle.positions.specs.Members.{has}
+use Rattle.graph.specs.Slots.{descends}
+use Rattle.graph.specs.Graphs.{parents, heads}
+use Rattle.graph.specs.Cuts.{cutAt}
+use Rattle.graph.specs.Invariant.{replicaAt, seqAt}
+use Rattle.graph.proofs.DescentLaws.{cut-intro, cut-held, cut-elim}
+use Rattle.graph.proofs.MeaningLaws.{parent-elim, parent-intro, head-elim, head-intro}
+use Rattle.promises.specs.Reached.{Versions, versionAt}
+use Rattle.promises.specs.Documented.{Before, DirectParent, Maximal, IsCut}
+use Rattle.graph.specs.declared.EventGraph.{EventGraph}
+use Rattle.promises.proofs.LogOk.{LogOk}
+
+module _ (g : EventGraph) (W : Versions) (ok : LogOk g W) where
+  -- ---- descent is cover
+
+  pub before-of : (i j : ℕ) → i < g .held → descends (g .pasts) i j ≡ true → Before g W j i
+  before-of i j l d =
+      let m = ok .graph .earlier i j l d in
+      let b = and-both (ltb j i) (leb (seqAt g j) (entry (versionAt g W i) (replicaAt g j))) (sym (ok .descent i j l (omega arith)) ∙ d) in
+      record { held = l; earlier = m; covered = leb-true (seqAt g j) (entry (versionAt g W i) (replicaAt g j)) (b .1) }
+
+  pub of-before : (i j : ℕ) → Before g W j i → descends (g .pasts) i j ≡ true
+  of-before i j b =
+      ok .descent i j (b .held) (omega (arith, b .held, b .earlier))
+      ∙ rw (lt-ltb j i (b .earlier)) (le-leb (seqAt g j) (entry (versionAt g W i) (replicaAt g j)) (b .covered))
+
+  pub past-exact : (i j : ℕ) → i < g .held → (descends (g .pasts) i j ≡ true) ↔ Before g W j i
+  past-exact i j l = (before-of i j l, of-before i j)
+
+  -- the past of the past is past
+  pub before-through : (i j k : ℕ) → Before g W j i → Before g W k j → Before g W k i
+  before-through i j k a b = before-of i k (a .held) (ok .graph .through i j k (a .held) (of-before i j a) (of-before j k b))
+
+  is-before : (i j : ℕ) → i < g .held → (Before g W j i → ⊥) → descends (g .pasts) i j ≡ false
+  is-before i j l h = ⊎-elim
+      (λ (t : descends (g .pasts) i j ≡ true). absurd (h (before-of i j l t)))
+      (λ (z : descends (g .pasts) i j ≡ false). z) (true-or-false (descends (g .pasts) i j))
+
+  -- ---- parents and heads
+
+  pub parent-exact : (i k : ℕ) → i < g .held → (parents g i k ≡ true) ↔ DirectParent g W k i
+  parent-exact i k l = (there, back)
+    where
+      there : parents g i k ≡ true → DirectParent g W k i
+      there h =
+          let p = parent-elim g i k h in
+          record {
+            before = before-of i k l (p .0);
+            nearest = λ m a b. true≢false (sym (of-before m k a) ∙ p .1 m (of-before i m b));
+          }
+
+      back : DirectParent g W k i → parents g i k ≡ true
+      back p = parent-intro g i k (of-before i k (p .before))
+          (λ j d. let b = before-of i j l d in is-before j k (omega (arith, b .earlier)) (λ a. p .nearest j a b))
+
+  pub head-exact : (k : ℕ) → (heads g k ≡ true) ↔ Maximal g W k
+  head-exact k = (there, back)
+    where
+      there : heads g k ≡ true → Maximal g W k
+      there h =
+          let p = head-elim g (ok .graph) k h in
+          record { held = p .0; last = λ j b. true≢false (sym (of-before j k b) ∙ p .1 j (b .held)) }
+
+      back : Maximal g W k → heads g k ≡ true
+      back m = head-intro g k (m .held) (λ j l. is-before j k l (m .last j))
+
+  -- ---- cuts
+
+  pub cut-exact : (k : ℕ) → (has (g .cuts) k ≡ true) ↔ IsCut g W (suc k)
+  cut-exact k = (there, back)
+    where
+      there : has (g .cuts) k ≡ true → IsCut g W (suc k)
+      there h =
+          let c : cutAt (g .held) (g .pasts) k ≡ true = sym (ok .graph .cuts k) ∙ h in
+          let l = cut-held (g .held) (g .pasts) k c in
+          record {
+            some = omega arith;
+            most = omega (arith, l .0);
+            covers = λ i j m b q. before-of i j b (cut-elim (g .held) (g .pasts) k c i j (omega (arith, ok .graph .room)) b (omega arith) (omega arith)) .covered;
+          }
+
+      back : IsCut g W (suc k) → has (g .cuts) k ≡ true
+      back c = ok .graph .cuts k ∙ cut-intro (g .held) (g .pasts) k (omega (arith, c .most)) (omega (arith, c .most, ok .graph .room))
+          (λ j i q b m r. of-before j i (record { held = b; earlier = omega arith; covered = c .covers j i (omega arith) b (omega arith) }))

@@ -1,0 +1,143 @@
+-- Append keeps what a log holds: a new note is no held one's, so it stands beside the others with its version; and none is accepted twice.
+use mathlib.Core.Bool.{true, false, _&&_, false≢true}
+use mathlib.Core.List.{List, _∷_}
+use mathlib.Core.Logic.{_⊎_, inl, inr, ⊎-elim}
+use mathlib.Core.Path.{_≡_, refl, sym, ap, _∙_}
+use Prim.Native.Nat.{ℕ, _<_}
+use native.Mathlib.Decide.{ℕ-discrete}
+use native.Mathlib.Omega.{arith}
+use lib.Dec.{eqb}
+use lib.ListN.{length-set}
+use lib.Seq.{getD-set-same, getD-set-other}
+use borrow.Author.Tests.{lt-ltb, eq-eqb, eqb-true}
+use Rattle.laws.specs.Counting.{pick}
+use Rattle.laws.proofs.Orders.{true-or-false}
+use Rattle.laws.proofs.Searching.{any-false}
+use Rattle.clocks.specs.Vectors.{entry}
+use Rattle.clocks.proofs.Vectors.{well-formed-for}
+use Rattle.graph.specs.Slots.{codeOf, sameSlot, isAt}
+use Rattle.graph.specs.Refusals.{idAt, isKnown, refusalOf}
+use Rattle.graph.specs.Graphs.{pushed, appended}
+use Rattle.graph.specs.Invariant.{GraphOk, NotesOk, replicaAt, seqAt, codeAt}
+use Rattle.graph.proofs.DescentLaws.{accepted-facts}
+use Rattle.graph.proofs.NotesLaws.{OneMore, push-one-more, more-notes}
+use Rattle.promises.specs.Reached.{Versions, withVersion}
+use Rattle.promises.specs.Demand.{Note, Last, never, at, Among, here, there}
+use Rattle.clocks.specs.declared.event.Event.{Event}
+use Rattle.clocks.specs.declared.id.EventId.{EventId}
+use Rattle.graph.specs.declared.EventGraph.{EventGraph}
+use Rattle.promises.proofs.WhatIsHeld.{NoteAt, Contained, RootsAre, Holding, note-moves}
+
+roots-stay : (start g h : EventGraph) (last : Last) → h .rooted ≡ g .rooted → h .roots ≡ g .roots → RootsAre start g last → RootsAre start h last
+roots-stay start g h never a b r = (a ∙ r .0, b ∙ r .1)
+roots-stay start g h (at f) a b r = (a ∙ r .0, b ∙ r .1, rw b (r .2))
+
+among-cases : {n m : Note} {ns : List Note} → Among n (m ∷ ns) → (n ≡ m) ⊎ Among n ns
+among-cases here = inl refl
+among-cases (there a) = inr a
+
+-- the id of an accepted event stands in no slot
+other-id : (g : EventGraph) (id : EventId) (v : List ℕ) → NotesOk g → GraphOk g → refusalOf g id v ≡ 0 → (k : ℕ) → k < g .held
+    → ((eqb (replicaAt g k) (id .idx .0) && eqb (seqAt g k) (id .seq)) && eqb (codeAt g k) (codeOf (id .disambiguator))) ≡ false
+unfolding isKnown isAt sameSlot
+other-id g id v notes ok r k l =
+    let z = any-false (idAt g id) 256 (accepted-facts g id v r .new) k (omega (arith, ok .room)) in
+    rw (lt-ltb k (g .held) l) at z
+
+module _ (start g : EventGraph) (W : Versions) (ns : List Note) (last : Last) (ok : GraphOk g) (notes : NotesOk g) (held : Holding start g W ns last) where
+  module _ (e : Event) (v : List ℕ) (taken : refusalOf g (e .id) v ≡ 0) where
+    abbrev more : EventGraph
+    more = pushed g e v
+
+    abbrev versions : Versions
+    versions = withVersion W (e .id) v
+
+    abbrev note : Note
+    note = record { event = e; version = v }
+
+    one-more : OneMore g more (e .id) v
+    one-more =
+        let a = accepted-facts g (e .id) v taken in
+        push-one-more g e v ok notes (a .fits) (well-formed-for (g .named .len) v (e .id) (a .vector) .0)
+
+    -- the new one
+    new-note : NoteAt more versions (g .held) note
+    unfolding pushed
+    new-note =
+        let p = one-more in
+        let f = accepted-facts g (e .id) v taken .fits in
+        record {
+          small = omega arith;
+          replica = p .newReplica;
+          seq = p .newSeq;
+          code = p .newCode;
+          lamport = getD-set-same (g .lamports) (g .held) (e .lamport) 0 (omega (arith, held .tables .0));
+          op = getD-set-same (g .ops) (g .held) (e .op) 0 (omega (arith, held .tables .1));
+          version = rw (
+            p .newReplica,
+            p .newSeq,
+            p .newCode,
+            eq-eqb (e .id .idx .0) (e .id .idx .0) refl,
+            eq-eqb (e .id .seq) (e .id .seq) refl,
+            eq-eqb (codeOf (e .id .disambiguator)) (codeOf (e .id .disambiguator)) refl,
+          );
+        }
+
+    -- an old one
+    old-note : (k : ℕ) (n : Note) → NoteAt g W k n → NoteAt more versions k n
+    unfolding pushed
+    old-note k n a =
+        let p = one-more in
+        let l = a .small in
+        note-moves k k n (omega arith) (p .oldReplica k l) (p .oldSeq k l) (p .oldCode k l)
+        (getD-set-other (g .lamports) (g .held) k (e .lamport) 0 (λ z. omega arith))
+        (getD-set-other (g .ops) (g .held) k (e .op) 0 (λ z. omega arith))
+        (rw (p .oldReplica k l, p .oldSeq k l, p .oldCode k l, other-id g (e .id) v notes ok taken k l)) a
+
+    push-holding : Holding start more versions (note ∷ ns) last
+    unfolding pushed
+    push-holding = record {
+      tables = (length-set (g .lamports) (g .held) (e .lamport) ∙ held .tables .0, length-set (g .ops) (g .held) (e .op) ∙ held .tables .1);
+      size = held .size;
+      roots = roots-stay start g more last refl refl (held .roots);
+      each = λ k l. elim (ℕ-discrete k (g .held)) [
+        | yes z ↦ (note, here, rw z new-note)
+        | no z ↦ let w = held .each k (omega arith) in (w .0, there (w .1), old-note k (w .0) (w .2))
+      ];
+      all = λ n a. ⊎-elim
+          (λ (q : n ≡ note). inr (g .held, rw q new-note))
+          (λ (q : Among n ns). ⊎-elim
+          (λ (c : Contained last n). inl c)
+          (λ (w : (k : ℕ) × NoteAt g W k n). inr (w .0, old-note (w .0) n (w .1))) (held .all n q)) (among-cases a);
+    }
+
+  -- refused or not
+  pub append-holding : (e : Event) (v : List ℕ) → Holding start (appended g e v .graph) (pick (eqb (appended g e v .refusal) 0) (withVersion W (e .id) v) W)
+      (pick (eqb (appended g e v .refusal) 0) (record { event = e; version = v } ∷ ns) ns) last
+  unfolding appended
+  append-holding e v = ⊎-elim
+      (λ (t : eqb (refusalOf g (e .id) v) 0 ≡ true). rw t (push-holding e v (eqb-true (refusalOf g (e .id) v) 0 t)))
+      (λ (z : eqb (refusalOf g (e .id) v) 0 ≡ false). rw z held) (true-or-false (eqb (refusalOf g (e .id) v) 0))
+
+  -- an accepted note is accepted once: where it is held it is known, and where it is gone its sequence is not above roots
+  pub accepted-once : (e : Event) (v : List ℕ) (n : Note) → Among n ns → n .event .id ≡ e .id → refusalOf g (e .id) v ≡ 0 → ⊥
+  accepted-once e v n a same taken = ⊎-elim (gone last (held .roots))
+      (λ (w : (k : ℕ) × NoteAt g W k n).
+      let s = w .1 in
+      let z = other-id g (e .id) v notes ok taken (w .0) (s .small) in
+      false≢true (sym z ∙ rw (
+        eq-eqb (replicaAt g (w .0)) (e .id .idx .0) (s .replica ∙ ap (λ (i : EventId). i .idx .0) same),
+        eq-eqb (seqAt g (w .0)) (e .id .seq) (s .seq ∙ ap (λ (i : EventId). i .seq) same),
+        eq-eqb (codeAt g (w .0)) (codeOf (e .id .disambiguator)) (s .code ∙ ap (λ (i : EventId). codeOf (i .disambiguator)) same),
+      ))) (held .all n a)
+    where
+      above : entry (g .roots .entries) (e .id .idx .0) < e .id .seq
+      above =
+          let p = one-more e v taken in
+          let m = more-notes g (e .id) v notes taken (pushed g e v) p .aboveRoots (g .held) (omega (arith, p .held)) in
+          rw (p .roots, p .newReplica, p .newSeq) at m
+
+      gone : (last : Last) → RootsAre start g last → Contained last n → ⊥
+      gone never r c = c
+      gone (at f) r c =
+          omega (arith, above, r .2 (e .id .idx .0), c, ap (λ (i : EventId). i .seq) same, ap (λ (i : EventId). entry f (i .idx .0)) same)
