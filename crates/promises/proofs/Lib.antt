@@ -1,4 +1,5 @@
--- The proofs of the statements: on every reached graph what is documented holds, two logs agree, and the starred examples.
+-- The proofs of the statements: on every reached graph what is documented holds, two logs agree, what one desk's trace answers, and that no
+-- second answer fits a contract.
 pub mod LogOk
 pub mod AppendLog
 pub mod RemainLog
@@ -16,4 +17,10 @@ pub mod WhatIsHeld
 pub mod HeldAppends
 pub mod HeldFlushes
 pub mod Demand3
-pub mod GraphExampleTable
+pub mod OwnTrace
+pub mod OneAnswer
+pub mod OneAnswerSets
+pub mod OneAnswerClocks
+pub mod OneAnswerPositions
+pub mod OneAnswerHistory
+pub mod OneAnswerGraph

@@ -1,18 +1,18 @@
--- Document 01, Examples beside each edge: graph G, its events a, b, c, d, and the starred table.
+-- Document 01, Examples beside each edge: graph G with its events a, b, c, d, and one table of all starred examples, those of G and those of history H.
 use mathlib.Core.Bool.{Bool, true, false, _&&_, not}
-use mathlib.Core.List.{List, [], _∷_}
+use mathlib.Core.List.{List, [], _∷_, _++_}
 use Prim.Native.Nat.{ℕ, _+_}
 use lib.Dec.{eqb}
 use lib.ListN.{take}
-use Rattle.laws.specs.Counting.{pick}
 use Rattle.laws.specs.Lists.{listBelow}
-use Rattle.clocks.specs.declared.event.Event.{Event}
-use Rattle.clocks.specs.declared.id.Disambiguator.the-variants.{Absent}
 use Rattle.positions.specs.Members.{has}
 use Rattle.graph.specs.Refusals.{lateNo, notClosedNo, refusalOf}
 use Rattle.graph.specs.Graphs.{created, appended, parents, placeOf}
 use Rattle.graph.specs.Cuts.{greatest, isCritical}
 use Rattle.graph.specs.Removals.{withoutId, flushed}
+use Rattle.history.specs.Examples.{answers, expected}
+use Rattle.clocks.specs.declared.event.Event.{Event}
+use Rattle.clocks.specs.declared.id.Disambiguator.the-variants.{Absent}
 use Rattle.graph.specs.declared.EventGraph.{EventGraph}
 use Rattle.graph.specs.declared.FrontierFound.{FrontierFound}
 
@@ -88,3 +88,14 @@ starred =
 abbrev pub holds : List Bool → Bool
 holds [] = true
 holds (t ∷ ts) = t && holds ts
+
+-- what was answered, row by row, against what is expected; more or fewer rows than expected is a row that fails
+abbrev pub compared : List (List ℕ) → List (List ℕ) → List Bool
+compared [] [] = []
+compared [] (y ∷ ys) = false ∷ []
+compared (x ∷ xs) [] = false ∷ []
+compared (x ∷ xs) (y ∷ ys) = is x y ∷ compared xs ys
+
+-- the table: the seventeen rows of G, then the seven of H
+abbrev pub table : List Bool
+table = starred ++ compared answers expected

@@ -1,4 +1,4 @@
--- The starred examples of graph G: one table and one statement, `examples`. The checker computes each row by itself.
+-- The starred examples of graph G, for Examples.antt. The checker computes each row by itself.
 use mathlib.Core.Bool.{true, not}
 use mathlib.Core.Path.{_≡_, refl}
 use mathlib.Core.List.{[], _∷_}
@@ -14,7 +14,7 @@ use Rattle.graph.specs.Refusals.{isKnown, siblingLast, isLate, isBehind, isNotC
 use Rattle.graph.specs.Graphs.{created, pushed, appended, placeOf}
 use Rattle.graph.specs.Cuts.{cutAt, highestSeq, prefixFrontier, cutInside, greatest, isCritical}
 use Rattle.graph.specs.Removals.{closed, closedRows, kept, withoutId, flushed}
-use Rattle.promises.specs.GraphExamples.{starred, holds, is, gives, cutsOf, parentsOf, fresh, addA, addB, addC, addD, graphG, flushedG, withoutB, note}
+use Rattle.examples.specs.Examples.{starred, holds, is, gives, cutsOf, parentsOf, fresh, addA, addB, addC, addD, graphG, flushedG, withoutB, note}
 
 t0 : (is (cutsOf (addA fresh)) (1 ∷ [])) ≡ true
 unfolding countBelow anyBelow allBelow lastBelow firstBelow maxBelow listBelow tabulate concatBelow wellFormed wellFormedFor covers atMost newFrontier fromEntries joinEntries bit has setOf numberOf sameSlot isAt coveredAt rowAt pastOf isKnown siblingLast isLate isBehind isNotClosed refusalOf created pushed appended placeOf cutAt highestSeq prefixFrontier cutInside greatest isCritical closed closedRows kept withoutId flushed
@@ -84,5 +84,5 @@ t16 : (eqb (refusalOf (addB (addA fresh)) (note 2 1 2 12 .id) (0 ∷ 1 ∷ 1 ∷
 unfolding countBelow anyBelow allBelow lastBelow firstBelow maxBelow listBelow tabulate concatBelow wellFormed wellFormedFor covers atMost newFrontier fromEntries joinEntries bit has setOf numberOf sameSlot isAt coveredAt rowAt pastOf isKnown siblingLast isLate isBehind isNotClosed refusalOf created pushed appended placeOf cutAt highestSeq prefixFrontier cutInside greatest isCritical closed closedRows kept withoutId flushed
 t16 = refl
 
-pub examples : holds starred ≡ true
-examples = rw (t0, t1, t2, t3, t4, t5, t6, t7, t8, t9, t10, t11, t12, t13, t14, t15, t16)
+pub graph-examples : holds starred ≡ true
+graph-examples = rw (t0, t1, t2, t3, t4, t5, t6, t7, t8, t9, t10, t11, t12, t13, t14, t15, t16)

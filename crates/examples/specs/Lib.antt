@@ -1,0 +1,2 @@
+-- The table of the starred examples.
+pub mod Examples

@@ -1,0 +1,116 @@
+-- No second answer fits the contract of a public function of `graph`, one statement for each; `Post` as in OneAnswerClocks.antt. A list call answers the
+-- same and leaves the same in the buffer.
+use denote.Ref.{now}
+use Rattle.graph.proofs.append.is_behind.Reads.{Post as is-behind}
+use Rattle.graph.proofs.append.empty_graph.Reads.{Post as empty-graph}
+use Rattle.graph.proofs.EventGraph.get.Reads.{Post as get}
+use Rattle.graph.proofs.EventGraph.event_at.Reads.{Post as event-at}
+use Rattle.graph.proofs.EventGraph.delivery_order.Reads.{Post as delivery-order}
+use Rattle.graph.proofs.EventGraph.len.Reads.{Post as len}
+use Rattle.graph.proofs.EventGraph.is_empty.Reads.{Post as is-empty}
+use Rattle.graph.proofs.EventGraph.roots.Reads.{Post as roots}
+use Rattle.graph.proofs.EventGraph.named.Reads.{Post as named}
+use Rattle.graph.proofs.EventGraph.greatest_critical_frontier.Reads.{Post as greatest-critical-frontier}
+use Rattle.graph.proofs.EventGraph.is_critical_at.Reads.{Post as is-critical-at}
+use Rattle.graph.proofs.EventGraph.is_critical.Reads.{Post as is-critical}
+use Rattle.graph.proofs.EventGraph.predecessors.Reads.{Post as predecessors}
+use Rattle.graph.proofs.EventGraph.concurrent.Reads.{Post as concurrent}
+use Rattle.graph.proofs.EventGraph.iter.Reads.{Post as iter}
+use Rattle.graph.proofs.EventGraph.replica_events.Reads.{Post as replica-events}
+use Rattle.graph.proofs.EventGraph.direct_predecessors.Reads.{Post as direct-predecessors}
+use Rattle.graph.proofs.EventGraph.frontier.Reads.{Post as frontier}
+use Rattle.graph.proofs.EventGraph.cuts.Reads.{Post as cuts}
+use Rattle.graph.proofs.EventGraph.new.Reads.{Post as new}
+use Rattle.graph.proofs.EventGraph.from_checkpoint.Reads.{Post as from-checkpoint}
+use Rattle.graph.proofs.EventGraph.append.Reads.{Post as append}
+use Rattle.graph.proofs.EventGraph.remove.Reads.{Post as remove}
+use Rattle.graph.proofs.EventGraph.retain.Reads.{Post as retain}
+use Rattle.graph.proofs.EventGraph.prune_predecessors.Reads.{Post as prune-predecessors}
+use Rattle.graph.proofs.EventGraph.clear.Reads.{Post as clear}
+use Rattle.promises.proofs.OneAnswer.{one-answer, writes-once, lists-if-once, Once, OnceWith}
+
+-- ---- helpers of append that are public
+
+pub is-behind-once : Once is-behind
+is-behind-once κs a x y s t p q = one-answer p q
+
+pub empty-graph-once : Once empty-graph
+empty-graph-once κs a x y s t p q = one-answer p q
+
+-- ---- what is asked
+
+pub get-once : Once get
+get-once κs a x y s t p q = one-answer p q
+
+pub event-at-once : Once event-at
+event-at-once κs a x y s t p q = one-answer p q
+
+pub delivery-order-once : Once delivery-order
+delivery-order-once κs a x y s t p q = one-answer p q
+
+pub len-once : Once len
+len-once κs a x y s t p q = one-answer p q
+
+pub is-empty-once : Once is-empty
+is-empty-once κs a x y s t p q = one-answer p q
+
+pub roots-once : Once roots
+roots-once κs a x y s t p q = one-answer p q
+
+pub named-once : Once named
+named-once κs a x y s t p q = one-answer p q
+
+pub greatest-critical-frontier-once : Once greatest-critical-frontier
+greatest-critical-frontier-once κs a x y s t p q = one-answer p q
+
+pub is-critical-at-once : Once is-critical-at
+is-critical-at-once κs a x y s t p q = one-answer p q
+
+pub is-critical-once : Once is-critical
+is-critical-once κs a x y s t p q = one-answer p q
+
+-- ---- lists
+
+pub predecessors-once : OnceWith predecessors (λ κs s. now (s .1 .1 .0))
+predecessors-once κs a x y s t p q = lists-if-once p q
+
+pub concurrent-once : OnceWith concurrent (λ κs s. now (s .1 .1 .0))
+concurrent-once κs a x y s t p q = lists-if-once p q
+
+pub iter-once : OnceWith iter (λ κs s. now (s .1 .0))
+iter-once κs a x y s t p q = writes-once p q
+
+pub replica-events-once : OnceWith replica-events (λ κs s. now (s .1 .1 .1 .1 .0))
+replica-events-once κs a x y s t p q = lists-if-once p q
+
+pub direct-predecessors-once : OnceWith direct-predecessors (λ κs s. now (s .1 .1 .0))
+direct-predecessors-once κs a x y s t p q = writes-once p q
+
+pub frontier-once : OnceWith frontier (λ κs s. now (s .1 .0))
+frontier-once κs a x y s t p q = writes-once p q
+
+pub cuts-once : OnceWith cuts (λ κs s. now (s .1 .0))
+cuts-once κs a x y s t p q = writes-once p q
+
+-- ---- what makes or changes a graph
+
+pub new-once : Once new
+new-once κs a x y s t p q = one-answer p q
+
+pub from-checkpoint-once : Once from-checkpoint
+from-checkpoint-once κs a x y s t p q = one-answer p q
+
+pub append-once : Once append
+append-once κs a x y s t p q = one-answer p q
+
+pub remove-once : Once remove
+remove-once κs a x y s t p q = one-answer p q
+
+pub retain-once : Once retain
+retain-once κs a x y s t p q = one-answer p q
+
+pub prune-predecessors-once : Once prune-predecessors
+prune-predecessors-once κs a x y s t p q = one-answer p q
+
+pub clear-once : Once clear
+clear-once κs a x y s t p q = one-answer p q
