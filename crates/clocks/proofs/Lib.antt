@@ -3,3 +3,4 @@ pub mod Ids
 pub mod Vectors
 pub mod Frontiers
 pub mod Versions
+pub mod Lent

@@ -46,6 +46,11 @@ setByIdx f i value =
     pick (leb (f .len) i) (answer badOrigin f)
     (pick (ltb top value) (answer badVector f) (answer accepted (record { len = f .len; entries = set (f .entries) i value })))
 
+-- the same in the caller's frontier: the number that the call answers, and the frontier after it
+pub record SetInPlace (before : CausalFrontier) (i value r : ℕ) (after : CausalFrontier) : Type 0 where
+  pub refusal : r ≡ setByIdx before i value .refusal
+  pub frontier : after ≡ setByIdx before i value .frontier
+
 -- entry by entry the greater, or the lesser, of both
 unfoldable pub joinEntries : List ℕ → List ℕ → List ℕ
 joinEntries v w = tabulate (λ i. max (entry v i) (entry w i)) desks

@@ -8,6 +8,7 @@ use crate::tables::frontier;
 use crate::tables::id_at;
 use crate::tables::is_led;
 use crate::tables::led;
+use clocks::in_place::set_lent;
 use clocks::refusal::ACCEPTED;
 use clocks::refusal::BAD_LINE;
 use clocks::replica::ReplicaIdx;
@@ -33,7 +34,7 @@ pub fn set(s: Session, kinds: &[u8], values: &[usize], out: &mut [u8]) -> usize 
     let f = a.frontier;
     let origin = entry(values, 0);
     let value = entry(values, 1);
-    answers::frontier(out, s.at, f.set_by_idx(ReplicaIdx(origin), value))
+    answers::frontier(out, s.at, set_lent(f, ReplicaIdx(origin), value))
 }
 
 // `c.sum V`
