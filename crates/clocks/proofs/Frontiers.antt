@@ -1,18 +1,21 @@
 -- Laws of frontiers: join is the least upper bound and meet the greatest lower bound; what a version includes it covers; every call
 -- keeps a frontier well made; and well-made frontiers that compare equal are equal.
-use mathlib.Core.Bool.{true}
+use mathlib.Core.Bool.{true, false, false≢true}
 use mathlib.Core.List.{List}
 use mathlib.Core.Path.{_≡_, refl, sym, _∙_}
+use mathlib.Core.Logic.{⊎-elim}
 use Prim.Native.Nat.{ℕ, max, min, _<_, _≤_}
 use native.Mathlib.Nat.{max-le, le-max-left, le-max-right, min-le-left, min-le-right, le-min}
 use native.Mathlib.Decide.{ℕ-discrete}
 use native.Mathlib.Omega.{arith}
 use lib.ListN.{length, getD, set, replicate, length-set}
 use lib.Seq.{ext-getD, getD-set-same, getD-set-other}
+use borrow.Author.Tests.{le-ltb, ltb-false, eq-eqb, ne-eqb}
 use Rattle.laws.specs.Lists.{tabulate}
 use Rattle.laws.proofs.Lists.{getD-zeros, tabulate-cong, getD-tabulate-all, length-tabulate}
+use Rattle.laws.proofs.Orders.{true-or-false}
 use Rattle.clocks.specs.Vectors.{top, desks, entry, wellFormed, covers, atMost, compared}
-use Rattle.clocks.specs.Frontiers.{FrontierOk, zeros, joinEntries, meetEntries, joined, met}
+use Rattle.clocks.specs.Frontiers.{FrontierOk, zeros, joinEntries, meetEntries, joined, met, isBadCount, newFrontier, fromEntries}
 use Rattle.clocks.specs.declared.causal_frontier.CausalFrontier.{CausalFrontier}
 use Rattle.clocks.specs.declared.id.EventId.{EventId}
 use Rattle.clocks.specs.declared.vector.Comparison.the-variants.{Equal}
@@ -78,6 +81,41 @@ from-entries-ok r v l h = record {
   where
     same : (i : ℕ) → getD (tabulate (entry v) desks) i 0 ≡ entry v i
     same = getD-tabulate-all (entry v) desks (λ i p. let e = well-formed-length r v h in entry-out v i (omega arith))
+
+-- a frontier made from a well-formed vector says the same
+pub made : (r : ℕ) (v : List ℕ) → r ≤ desks → wellFormed r v ≡ true
+    → FrontierOk (fromEntries r v .frontier) × (fromEntries r v .frontier .len ≡ r) × ((i : ℕ) → entry (fromEntries r v .frontier .entries) i ≡ entry v i)
+unfolding fromEntries
+made r v l h = elim (ℕ-discrete r 0) [
+  | yes z ↦ rw (eq-eqb r 0 z) (zeros-ok 0 (omega arith), sym z, λ i. getD-zeros 16 i ∙ sym (out i (omega arith)))
+  | no z ↦ rw (ne-eqb r 0 z, le-ltb desks r l, h) (from-entries-ok r v l h, refl, getD-tabulate-all (entry v) desks (λ i q. out i (omega arith)))
+]
+  where
+    out : (i : ℕ) → r ≤ i → entry v i ≡ 0
+    out i q = entry-out v i (omega (arith, well-formed-length r v h))
+
+-- a count that is not refused is 1 to 16
+pub good-count : (r : ℕ) → isBadCount r ≡ false → (1 ≤ r) × (r ≤ desks)
+good-count r e = elim (ℕ-discrete r 0) [
+  | yes q ↦ absurd (false≢true (sym e ∙ rw (eq-eqb r 0 q)))
+  | no q ↦ (omega arith, ltb-false desks r (rw (ne-eqb r 0 q) at e))
+]
+
+-- a frontier that creation gives is well made, refused or not
+pub new-made : (r : ℕ) → FrontierOk (newFrontier r .frontier)
+unfolding newFrontier
+new-made r = ⊎-elim
+    (λ (t : isBadCount r ≡ true). rw t (zeros-ok 0 (omega arith)))
+    (λ (z : isBadCount r ≡ false). rw z (zeros-ok r (good-count r z .1))) (true-or-false (isBadCount r))
+
+pub from-made : (r : ℕ) (v : List ℕ) → FrontierOk (fromEntries r v .frontier)
+unfolding fromEntries
+from-made r v = ⊎-elim
+    (λ (t : isBadCount r ≡ true). rw t (zeros-ok 0 (omega arith)))
+    (λ (z : isBadCount r ≡ false). ⊎-elim
+    (λ (w : wellFormed r v ≡ true). rw (z, w) (from-entries-ok r v (good-count r z .1) w))
+    (λ (w : wellFormed r v ≡ false). rw (z, w) (zeros-ok 0 (omega arith))) (true-or-false (wellFormed r v)))
+    (true-or-false (isBadCount r))
 
 pub set-ok : (f : CausalFrontier) (i value : ℕ) → FrontierOk f → i < f .len → value ≤ top → FrontierOk (record { len = f .len; entries = set (f .entries) i value })
 set-ok f i value ok l h = record {

@@ -9,7 +9,7 @@ use native.Mathlib.Omega.{arith}
 use lib.Dec.{eqb}
 use borrow.Author.Tests.{eq-eqb, eqb-true}
 use Rattle.laws.specs.Counting.{one, countBelow, anyBelow, allBelow}
-use Rattle.laws.proofs.Orders.{and-both, le-or-lt}
+use Rattle.laws.proofs.Orders.{and-both, le-or-lt, true-or-false, is-false}
 
 -- ---- each number below n
 
@@ -24,10 +24,6 @@ all-elim f zero e k l = absurd (omega arith)
 all-elim f (suc n) e k l =
     let a = and-both (allBelow f n) (f n) e in
     elim (ℕ-discrete k n) [ yes q ↦ rw q (a .1) | no q ↦ all-elim f n (a .0) k (omega arith) ]
-
-is-false : (b : Bool) → (b ≡ true → ⊥) → b ≡ false
-is-false true h = absurd (h refl)
-is-false false h = refl
 
 -- one that fails is enough
 pub all-fails : (f : ℕ → Bool) (n k : ℕ) → k < n → f k ≡ false → allBelow f n ≡ false
@@ -92,6 +88,14 @@ count-up f m (suc n) l = elim (ℕ-discrete m (suc n)) [
   | yes q ↦ rw q (omega arith)
   | no q ↦ omega (arith, count-up f m n (omega arith))
 ]
+
+-- of n, no more than n are picked
+pub count-within : (f : ℕ → Bool) (n m : ℕ) → ((k : ℕ) → k < m → f k ≡ true → k < n) → countBelow f m ≤ n
+unfolding countBelow
+count-within f n zero h = omega arith
+count-within f n (suc m) h = ⊎-elim
+    (λ (l : n ≤ m). ⊎-elim (λ (t : f m ≡ true). absurd (omega (arith, h m (omega arith) t))) (λ (z : f m ≡ false). rw z (omega (arith, count-within f n m (λ k q. h k (omega arith))))) (true-or-false (f m)))
+    (λ (l : m < n). omega (arith, count-le f (suc m))) (le-or-lt n m)
 
 -- a set within another, with one member less, is smaller
 pub count-less : (f g : ℕ → Bool) (p n : ℕ) → p < n → ((k : ℕ) → f k ≡ true → g k ≡ true) → g p ≡ true → f p ≡ false → countBelow f n < countBelow g n

@@ -12,6 +12,7 @@ use lib.Seq.{ext-getD, getD-set-same, getD-set-other, getD-append-seam, getD-app
 use Rattle.laws.specs.Counting.{pick, one, countBelow}
 use Rattle.laws.specs.Lists.{tabulate, listBelow, concatBelow, written}
 use Rattle.laws.proofs.Orders.{le-or-lt}
+use Rattle.laws.proofs.Counting.{count-rises}
 
 -- ---- tabulate
 
@@ -62,6 +63,19 @@ pub list-cong : (t : ℕ → Bool) (f g : ℕ → ℕ) (n : ℕ) → ((k : ℕ) 
 unfolding listBelow
 list-cong t f g zero h = refl
 list-cong t f g (suc n) h = ap₂ (λ (x : List ℕ) (y : ℕ). x ++ pick (t n) (y ∷ []) []) (list-cong t f g n (λ k l. h k (omega arith))) (h n (omega arith))
+
+-- what a test picks stands where as many were picked before it
+pub list-at : (t : ℕ → Bool) (f : ℕ → ℕ) (n a : ℕ) → a < n → t a ≡ true → getD (listBelow t f n) (countBelow t a) 0 ≡ f a
+unfolding listBelow
+list-at t f zero a l e = absurd (omega arith)
+list-at t f (suc n) a l e = elim (ℕ-discrete a n) [
+  | yes q ↦
+      let h : t n ≡ true = ap t (sym q) ∙ e in
+      rw (q, h) (ap (λ (i : ℕ). getD (listBelow t f n ++ (f n ∷ [])) i 0) (sym (length-listBelow t f n)) ∙ getD-append-seam (listBelow t f n) (f n) [] 0)
+  | no q ↦
+      List·getD-append (listBelow t f n) (pick (t n) (f n ∷ []) []) 0 (countBelow t a) (omega (arith, length-listBelow t f n, count-rises t a n (omega arith) e))
+      ∙ list-at t f n a (omega arith) e
+]
 
 -- ---- a list written into a buffer
 

@@ -1,15 +1,14 @@
 -- A cut is order-free: two logs that hold the same notes with the same versions have cuts of the same lengths, with the same ids.
 use mathlib.Core.Bool.{true}
 use mathlib.Core.Logic.{⊎-elim}
-use mathlib.Core.Path.{_≡_, sym, _∙_}
+use mathlib.Core.Path.{_≡_}
 use Prim.Native.Nat.{ℕ, suc, _<_, _≤_}
 use native.Mathlib.Nat.{le-antisymm}
 use native.Mathlib.Omega.{arith}
 use Rattle.laws.proofs.Orders.{le-or-lt, bool-iff}
 use Rattle.positions.specs.Members.{has}
 use Rattle.graph.specs.Slots.{descends}
-use Rattle.graph.specs.Cuts.{cutAt}
-use Rattle.graph.proofs.DescentLaws.{cut-intro, cut-held, cut-elim}
+use Rattle.graph.proofs.DescentLaws.{recorded-intro, recorded-held, recorded-elim}
 use Rattle.promises.specs.Reached.{Versions}
 use Rattle.promises.specs.Demand.{SameId}
 use Rattle.graph.specs.declared.EventGraph.{EventGraph}
@@ -27,13 +26,10 @@ held-same m = le-antisymm (held-within m) (held-within (swapped m))
 -- ---- a cut has the same ids before its end
 
 module _ {g h : EventGraph} {W U : Versions} (m : Match g W h U) (k : ℕ) (recorded : has (g .cuts) k ≡ true) where
-  at-cut : cutAt (g .held) (g .pasts) k ≡ true
-  at-cut = sym (m .left .graph .cuts k) ∙ recorded
-
   -- in the other too, what stands beyond it descends from all that stands up to it
   over-cut : (i j a b : ℕ) → i < g .held → k < i → j ≤ k → a < h .held → b < h .held → SameId g h i a → SameId g h j b → descends (h .pasts) a b ≡ true
   over-cut i j a b l o p q r s t =
-      descends-over m i j a b l q r s t (cut-elim (g .held) (g .pasts) k at-cut i j (omega (arith, m .left .graph .room)) l o p)
+      descends-over m i j a b l q r s t (recorded-elim g (m .left .graph) k recorded i j l o p)
 
   -- what stands up to position k does so in the other: all before it there comes from up to k
   pub cut-stays : (i a : ℕ) → i ≤ k → a < h .held → SameId g h i a → a ≤ k
@@ -64,11 +60,10 @@ module _ {g h : EventGraph} {W U : Versions} (m : Match g W h U) (k : ℕ) (reco
 
   pub cut-over : has (h .cuts) k ≡ true
   cut-over =
-      let c = cut-held (g .held) (g .pasts) k at-cut in
-      m .right .graph .cuts k ∙ cut-intro (h .held) (h .pasts) k (omega (arith, c .0, held-within m)) (c .1) each
+      recorded-intro h (m .right .graph) k (omega (arith, recorded-held g (m .left .graph) k recorded .0, held-within m)) each
     where
-      each : (j i : ℕ) → j < 256 → j < h .held → k < j → i ≤ k → descends (h .pasts) j i ≡ true
-      each j i p q o l =
+      each : (j i : ℕ) → j < h .held → k < j → i ≤ k → descends (h .pasts) j i ≡ true
+      each j i q o l =
           let x = m .back j q in
           let y = m .back i (omega arith) in
           over-cut (x .0) (y .0) j i (x .1)
@@ -85,6 +80,6 @@ Prefix g h n = (j : ℕ) → j < n → (k : ℕ) × (k < n) × SameId g h j k
 
 pub prefix-over : {g h : EventGraph} {W U : Versions} → Match g W h U → (k : ℕ) → has (g .cuts) k ≡ true → Prefix g h (suc k)
 prefix-over {g} {h} m k c j l =
-    let w = m .to j (omega (arith, cut-held (g .held) (g .pasts) k (at-cut m k c) .0)) in
+    let w = m .to j (omega (arith, recorded-held g (m .left .graph) k c .0)) in
     let s = cut-stays m k c j (w .0) (omega arith) (w .1) (w .2 .id) in
     (w .0, omega arith, w .2 .id)

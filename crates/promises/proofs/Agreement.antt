@@ -1,25 +1,25 @@
 -- Two logs that hold the same notes with the same versions, above the same roots, agree: in notes, parents, heads, cut lengths, and in the critical
 -- frontier for every bound. Nothing is said of how they came there.
-use mathlib.Core.Bool.{Bool, true, _&&_}
+use mathlib.Core.Bool.{Bool, true}
 use mathlib.Core.List.{List}
 use mathlib.Core.Logic.{⊎-elim}
 use mathlib.Core.Path.{_≡_, sym, ap, _∙_, fun-ext}
-use Prim.Native.Nat.{ℕ, zero, suc, _≤_}
+use Prim.Native.Nat.{ℕ, suc, _≤_, _<_}
 use native.Mathlib.Nat.{le-antisymm}
 use native.Mathlib.Omega.{arith}
 use lib.Dec.{eqb}
 use Rattle.laws.specs.Counting.{pick, allBelow, lastBelow, maxBelow}
-use Rattle.laws.proofs.Orders.{and-both, true-or-false, bool-iff}
+use Rattle.laws.proofs.Orders.{and-both, bool-iff, le-or-lt}
 use Rattle.laws.proofs.Counting.{all-intro, all-elim}
-use Rattle.laws.proofs.Searching.{max-up, max-least}
+use Rattle.laws.proofs.Searching.{max-up, max-least, last-is}
 use Rattle.laws.proofs.Lists.{tabulate-cong}
 use Rattle.clocks.specs.Vectors.{desks}
 use Rattle.positions.specs.Members.{has}
 use Rattle.graph.specs.Refusals.{covered}
 use Rattle.graph.specs.Cuts.{highestSeq, prefixFrontier, cutInside, greatest}
 use Rattle.graph.specs.Invariant.{replicaAt, seqAt}
-use Rattle.graph.proofs.DescentLaws.{cut-held}
-use Rattle.graph.proofs.FlushLaws.{covered-intro, covered-elim}
+use Rattle.graph.proofs.DescentLaws.{recorded-held}
+use Rattle.graph.proofs.FlushLaws.{covered-intro, covered-elim, inside}
 use Rattle.promises.specs.Reached.{Versions}
 use Rattle.promises.specs.Demand.{Agree}
 use Rattle.graph.specs.declared.EventGraph.{EventGraph}
@@ -46,15 +46,6 @@ prefix-same {g} {h} m n to back = rw (
 
 -- ---- the greatest critical frontier inside a bound
 
--- what is so at 0 and behind each number that satisfies the test is so at the last
-last-so : (P : ℕ → Type 0) (f : ℕ → Bool) (n : ℕ) → P 0 → ((k : ℕ) → f k ≡ true → P (suc k)) → P (lastBelow f n)
-unfolding lastBelow
-last-so P f zero z s = z
-last-so P f (suc n) z s = ⊎-elim (λ t. rw t (s n t)) (λ e. rw e (last-so P f n z s)) (true-or-false (f n))
-
-abbrev inside : EventGraph → List ℕ → ℕ → Bool
-inside g bound k = has (g .cuts) k && allBelow (covered g bound) (suc k)
-
 inside-over : {g h : EventGraph} {W U : Versions} → Match g W h U → (bound : List ℕ) (k : ℕ) → inside g bound k ≡ true → inside h bound k ≡ true
 inside-over {g} {h} m bound k e =
     let a = and-both (has (g .cuts) k) (allBelow (covered g bound) (suc k)) e in
@@ -62,7 +53,7 @@ inside-over {g} {h} m bound k e =
     rw c (all-intro (covered h bound) (suc k) (λ j l.
     let w = prefix-over (swapped m) k c j l in
     let b = covered-elim g bound (w .0) (all-elim (covered g bound) (suc k) (a .1) (w .0) (w .1)) in
-    covered-intro h bound j (omega (arith, cut-held (h .held) (h .pasts) k (sym (m .right .graph .cuts k) ∙ c) .0)) (rw (w .2 .replica, w .2 .seq) (b .1))))
+    covered-intro h bound j (omega (arith, recorded-held h (m .right .graph) k c .0)) (rw (w .2 .replica, w .2 .seq) (b .1))))
 
 module _ {g h : EventGraph} {W U : Versions} (m : Match g W h U) (bound : List ℕ) where
   inside-same : cutInside g bound ≡ cutInside h bound
@@ -72,11 +63,14 @@ module _ {g h : EventGraph} {W U : Versions} (m : Match g W h U) (bound : List �
 
   frontier-same : prefixFrontier g (cutInside h bound) ≡ prefixFrontier h (cutInside h bound)
   unfolding cutInside
-  frontier-same = last-so (λ n. prefixFrontier g n ≡ prefixFrontier h n) (inside h bound) 256
-      (prefix-same m 0 (λ j l. absurd (omega arith)) (λ j l. absurd (omega arith)))
-      (λ k e.
-      let c = and-both (has (h .cuts) k) (allBelow (covered h bound) (suc k)) e .0 in
-      prefix-same m (suc k) (prefix-over m k (cuts-same m k ∙ c)) (prefix-over (swapped m) k c))
+  frontier-same = ⊎-elim
+      (λ (z : lastBelow (inside h bound) 256 ≤ 0).
+      let e : lastBelow (inside h bound) 256 ≡ 0 = omega arith in
+      rw e (prefix-same m 0 (λ j l. absurd (omega arith)) (λ j l. absurd (omega arith))))
+      (λ (p : 0 < lastBelow (inside h bound) 256).
+      let w = last-is (inside h bound) 256 p in
+      let c = and-both (has (h .cuts) (w .0)) (allBelow (covered h bound) (suc (w .0))) (w .2) .0 in
+      rw (w .3) (prefix-same m (suc (w .0)) (prefix-over m (w .0) (cuts-same m (w .0) ∙ c)) (prefix-over (swapped m) (w .0) c))) (le-or-lt (lastBelow (inside h bound) 256) 0)
 
   pub greatest-same : greatest g bound ≡ greatest h bound
   unfolding greatest

@@ -1,24 +1,22 @@
 -- Append keeps what holds of a log: the new event descends from exactly what its version covers, and comes before nothing that an older one covers.
-use mathlib.Core.Bool.{true, false, _&&_}
+use mathlib.Core.Bool.{true, false}
 use mathlib.Core.List.{List}
 use mathlib.Core.Logic.{⊎-elim}
 use mathlib.Core.Path.{_≡_, refl, _∙_}
 use Prim.Native.Nat.{ℕ, _-_, _<_, _≤_}
 use native.Mathlib.Decide.{ℕ-discrete}
 use native.Mathlib.Omega.{arith}
-use lib.Dec.{ltb, eqb}
 use borrow.Author.Tests.{lt-ltb, le-ltb, eq-eqb}
-use Rattle.laws.proofs.Orders.{le-or-lt, imp-of, true-or-false}
-use Rattle.laws.proofs.Searching.{any-false}
+use Rattle.laws.proofs.Orders.{le-or-lt, imp-of, true-or-false, is-false}
 use Rattle.clocks.specs.Vectors.{entry, wellFormed}
 use Rattle.clocks.proofs.Vectors.{well-formed-for, well-formed-length, at-most-elim}
-use Rattle.graph.specs.Slots.{codeOf, sameSlot, isAt, descends}
-use Rattle.graph.specs.Refusals.{idAt, isKnown, isBehind, refusalOf}
+use Rattle.graph.specs.Slots.{codeOf, descends}
+use Rattle.graph.specs.Refusals.{isBehind, refusalOf}
 use Rattle.graph.specs.Graphs.{pushed}
-use Rattle.graph.specs.Invariant.{GraphOk, replicaAt, seqAt, codeAt, Siblings}
+use Rattle.graph.specs.Invariant.{GraphOk, replicaAt, seqAt, Siblings}
 use Rattle.graph.proofs.DescentLaws.{accepted-facts}
 use Rattle.graph.proofs.InvariantLaws.{push-ok}
-use Rattle.graph.proofs.NotesLaws.{OneMore, push-one-more, more-notes, timely-cases, AfterSibling}
+use Rattle.graph.proofs.NotesLaws.{OneMore, push-one-more, more-notes, timely-cases, AfterSibling, other-id, older}
 use Rattle.promises.specs.Reached.{Versions, withVersion, versionAt}
 use Rattle.clocks.specs.declared.event.Event.{Event}
 use Rattle.clocks.specs.declared.id.EventId.{EventId}
@@ -34,28 +32,15 @@ accepted-after g W ok id v h r = ⊎-elim
 
 -- nothing descends from its own position or a later one
 not-later : (h : EventGraph) → GraphOk h → (i j : ℕ) → i < h .held → i ≤ j → descends (h .pasts) i j ≡ false
-not-later h ok i j l m = ⊎-elim
-    (λ (t : descends (h .pasts) i j ≡ true). absurd (omega (arith, ok .earlier i j l t)))
-    (λ (z : descends (h .pasts) i j ≡ false). z) (true-or-false (descends (h .pasts) i j))
+not-later h ok i j l m = is-false (descends (h .pasts) i j) (λ t. omega (arith, ok .earlier i j l t))
 
 module _ (g h : EventGraph) (W : Versions) (id : EventId) (v : List ℕ) (ok : LogOk g W) (accepted : refusalOf g id v ≡ 0) (p : OneMore g h id v) where
-  -- no held event has this id
-  other-id : (k : ℕ) → k < g .held → ((eqb (replicaAt g k) (id .idx .0) && eqb (seqAt g k) (id .seq)) && eqb (codeAt g k) (codeOf (id .disambiguator))) ≡ false
-  unfolding isKnown isAt sameSlot
-  other-id k l =
-      let z : (ltb k (g .held) && ((eqb (replicaAt g k) (id .idx .0) && eqb (seqAt g k) (id .seq)) && eqb (codeAt g k) (codeOf (id .disambiguator)))) ≡ false =
-      any-false (idAt g id) 256 (accepted-facts g id v accepted .new) k (omega (arith, ok .graph .room)) in
-      rw (lt-ltb k (g .held) l) at z
+  -- the versions of the held events stay, since none has this id
+  pub old-version : (k : ℕ) → k < g .held → versionAt h (withVersion W id v) k ≡ versionAt g W k
+  old-version k l = rw (p .oldReplica k l, p .oldSeq k l, p .oldCode k l, other-id g id v (ok .graph) accepted k l)
 
-  -- so the versions of the held events stay
-  old-version : (k : ℕ) → k < g .held → versionAt h (withVersion W id v) k ≡ versionAt g W k
-  old-version k l = rw (p .oldReplica k l, p .oldSeq k l, p .oldCode k l, other-id k l)
-
-  new-version : versionAt h (withVersion W id v) (g .held) ≡ v
+  pub new-version : versionAt h (withVersion W id v) (g .held) ≡ v
   new-version = rw (p .newReplica, p .newSeq, p .newCode, eq-eqb (id .idx .0) (id .idx .0) refl, eq-eqb (id .seq) (id .seq) refl, eq-eqb (codeOf (id .disambiguator)) (codeOf (id .disambiguator)) refl)
-
-  old : (k : ℕ) → k < h .held → (k ≡ g .held → ⊥) → k < g .held
-  old k l z = omega (arith, p .held)
 
   -- what an older version covers is no new event, but for a sibling behind its siblings
   covered-sibling : (i : ℕ) → i < g .held → id .seq ≤ entry (versionAt g W i) (id .idx .0) → (replicaAt g i ≡ id .idx .0) × (seqAt g i ≡ id .seq)
@@ -77,19 +62,19 @@ module _ (g h : EventGraph) (W : Versions) (id : EventId) (v : List ℕ) (ok : L
     notes = more-notes g id v (ok .notes) accepted h p;
     long = λ k l. elim (ℕ-discrete k (g .held)) [
       | yes z ↦ rw (z, new-version, p .size) (well-formed-length (g .named .len) v (vector .0))
-      | no z ↦ let o = old k l z in rw (old-version k o, p .size) (ok .long k o)
+      | no z ↦ let o = older p k l z in rw (old-version k o, p .size) (ok .long k o)
     ];
     own = λ k l. elim (ℕ-discrete k (g .held)) [
       | yes z ↦ rw (z, new-version, p .newReplica, p .newSeq) (vector .1)
-      | no z ↦ let o = old k l z in rw (old-version k o, p .oldReplica k o, p .oldSeq k o) (ok .own k o)
+      | no z ↦ let o = older p k l z in rw (old-version k o, p .oldReplica k o, p .oldSeq k o) (ok .own k o)
     ];
     upto = λ k r l. elim (ℕ-discrete k (g .held)) [
       | yes z ↦ rw (z, new-version) (p .takes r)
-      | no z ↦ let o = old k l z in rw (old-version k o) (omega (arith, ok .upto k r o, p .rises r))
+      | no z ↦ let o = older p k l z in rw (old-version k o) (omega (arith, ok .upto k r o, p .rises r))
     ];
     after = λ k r l. elim (ℕ-discrete k (g .held)) [
       | yes z ↦ rw (z, new-version, p .roots) (accepted-after g W ok id v accepted r)
-      | no z ↦ let o = old k l z in rw (old-version k o, p .roots) (ok .after k r o)
+      | no z ↦ let o = older p k l z in rw (old-version k o, p .roots) (ok .after k r o)
     ];
     descent = λ i j l m. ⊎-elim
         (λ (q : i ≤ j). not-later h fine i j l q ∙ rw (le-ltb j i q))
@@ -98,13 +83,13 @@ module _ (g h : EventGraph) (W : Versions) (id : EventId) (v : List ℕ) (ok : L
               let o : j < g .held = omega arith in
               rw (z, new-version, p .oldReplica j o, p .oldSeq j o) (p .newPast j o)
           | no z ↦
-              let a = old i l z in
+              let a = older p i l z in
               let o : j < g .held = omega arith in
               rw (old-version i a, p .oldReplica j o, p .oldSeq j o, p .oldPast i j a) (ok .descent i j a o ∙ rw (lt-ltb j i q))
         ])) (le-or-lt i j);
     first = λ i k l m c. elim (ℕ-discrete k (g .held)) [
       | yes z ↦ newest i k z m c
-      | no z ↦ between i k (old k l z) m c
+      | no z ↦ between i k (older p k l z) m c
     ];
   }
     where

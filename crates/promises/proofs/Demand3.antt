@@ -65,8 +65,7 @@ pub what-is-held : {start g : EventGraph} {ns : List Note} {last : Last} → Sta
 what-is-held s begin = kept-so (start-reached s) (start-holding s)
 what-is-held s (append l e v) =
     let w = what-is-held s l in
-    let o = reached-ok (w .reached) in
-    kept-so (calls.append (w .reached) e v) (append-holding _ _ (w .versions) _ _ (o .graph) (o .notes) (w .holding) e v)
+    kept-so (calls.append (w .reached) e v) (append-holding _ _ (w .versions) _ _ (reached-ok (w .reached)) (w .holding) e v)
 what-is-held s (flush l f) =
     let w = what-is-held s l in
     let o = reached-ok (w .reached) in

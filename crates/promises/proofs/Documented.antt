@@ -1,19 +1,18 @@
 -- Descent, parents, heads and cuts are what the documents say, over positions and versions.
 use mathlib.Core.Bool.{true, false, true≢false}
-use mathlib.Core.Logic.{_↔_, ⊎-elim}
+use mathlib.Core.Logic.{_↔_}
 use mathlib.Core.Path.{_≡_, sym, _∙_}
 use Prim.Native.Nat.{ℕ, suc, _<_}
 use native.Mathlib.Omega.{arith}
 use lib.Dec.{leb, ltb}
 use borrow.Author.Tests.{lt-ltb, le-leb, leb-true}
-use Rattle.laws.proofs.Orders.{and-both, true-or-false}
+use Rattle.laws.proofs.Orders.{and-both, is-false}
 use Rattle.clocks.specs.Vectors.{entry}
 use Rattle.positions.specs.Members.{has}
 use Rattle.graph.specs.Slots.{descends}
 use Rattle.graph.specs.Graphs.{parents, heads}
-use Rattle.graph.specs.Cuts.{cutAt}
 use Rattle.graph.specs.Invariant.{replicaAt, seqAt}
-use Rattle.graph.proofs.DescentLaws.{cut-intro, cut-held, cut-elim}
+use Rattle.graph.proofs.DescentLaws.{recorded-intro, recorded-held, recorded-elim}
 use Rattle.graph.proofs.MeaningLaws.{parent-elim, parent-intro, head-elim, head-intro}
 use Rattle.promises.specs.Reached.{Versions, versionAt}
 use Rattle.promises.specs.Documented.{Before, DirectParent, Maximal, IsCut}
@@ -27,12 +26,12 @@ module _ (g : EventGraph) (W : Versions) (ok : LogOk g W) where
   before-of i j l d =
       let m = ok .graph .earlier i j l d in
       let b = and-both (ltb j i) (leb (seqAt g j) (entry (versionAt g W i) (replicaAt g j))) (sym (ok .descent i j l (omega arith)) ∙ d) in
-      record { held = l; earlier = m; covered = leb-true (seqAt g j) (entry (versionAt g W i) (replicaAt g j)) (b .1) }
+      record { held = l; earlier = omega arith; covered = leb-true (seqAt g j) (entry (versionAt g W i) (replicaAt g j)) (b .1) }
 
   pub of-before : (i j : ℕ) → Before g W j i → descends (g .pasts) i j ≡ true
   of-before i j b =
       ok .descent i j (b .held) (omega (arith, b .held, b .earlier))
-      ∙ rw (lt-ltb j i (b .earlier)) (le-leb (seqAt g j) (entry (versionAt g W i) (replicaAt g j)) (b .covered))
+      ∙ rw (lt-ltb j i (omega (arith, b .earlier))) (le-leb (seqAt g j) (entry (versionAt g W i) (replicaAt g j)) (b .covered))
 
   pub past-exact : (i j : ℕ) → i < g .held → (descends (g .pasts) i j ≡ true) ↔ Before g W j i
   past-exact i j l = (before-of i j l, of-before i j)
@@ -42,9 +41,7 @@ module _ (g : EventGraph) (W : Versions) (ok : LogOk g W) where
   before-through i j k a b = before-of i k (a .held) (ok .graph .through i j k (a .held) (of-before i j a) (of-before j k b))
 
   is-before : (i j : ℕ) → i < g .held → (Before g W j i → ⊥) → descends (g .pasts) i j ≡ false
-  is-before i j l h = ⊎-elim
-      (λ (t : descends (g .pasts) i j ≡ true). absurd (h (before-of i j l t)))
-      (λ (z : descends (g .pasts) i j ≡ false). z) (true-or-false (descends (g .pasts) i j))
+  is-before i j l h = is-false (descends (g .pasts) i j) (λ t. h (before-of i j l t))
 
   -- ---- parents and heads
 
@@ -81,14 +78,13 @@ module _ (g : EventGraph) (W : Versions) (ok : LogOk g W) where
     where
       there : has (g .cuts) k ≡ true → IsCut g W (suc k)
       there h =
-          let c : cutAt (g .held) (g .pasts) k ≡ true = sym (ok .graph .cuts k) ∙ h in
-          let l = cut-held (g .held) (g .pasts) k c in
+          let l = recorded-held g (ok .graph) k h in
           record {
             some = omega arith;
             most = omega (arith, l .0);
-            covers = λ i j m b q. before-of i j b (cut-elim (g .held) (g .pasts) k c i j (omega (arith, ok .graph .room)) b (omega arith) (omega arith)) .covered;
+            covers = λ i j m b q. before-of i j (omega arith) (recorded-elim g (ok .graph) k h i j (omega arith) (omega arith) (omega arith)) .covered;
           }
 
       back : IsCut g W (suc k) → has (g .cuts) k ≡ true
-      back c = ok .graph .cuts k ∙ cut-intro (g .held) (g .pasts) k (omega (arith, c .most)) (omega (arith, c .most, ok .graph .room))
-          (λ j i q b m r. of-before j i (record { held = b; earlier = omega arith; covered = c .covers j i (omega arith) b (omega arith) }))
+      back c = recorded-intro g (ok .graph) k (omega (arith, c .most))
+          (λ j i b m r. of-before j i (record { held = b; earlier = omega arith; covered = c .covers j i (omega arith) (omega arith) (omega arith) }))

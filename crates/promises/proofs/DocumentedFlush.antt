@@ -1,5 +1,5 @@
 -- A flush removes a whole prefix, a cut or nothing, and what stays closes ranks.
-use mathlib.Core.Bool.{Bool, true, false, _&&_, not}
+use mathlib.Core.Bool.{Bool, true, false, not}
 use mathlib.Core.List.{List}
 use mathlib.Core.Logic.{_⊎_, inl, inr, ⊎-elim}
 use mathlib.Core.Path.{_≡_, refl, sym, ap, _∙_}
@@ -10,22 +10,23 @@ use lib.Dec.{ltb}
 use lib.ListN.{getD}
 use borrow.Author.Tests.{lt-ltb, le-ltb, ltb-true, ltb-false, not-true}
 use Rattle.laws.specs.Counting.{countBelow}
-use Rattle.laws.proofs.Orders.{le-or-lt, true-or-false}
+use Rattle.laws.proofs.Orders.{le-or-lt}
 use Rattle.clocks.specs.Vectors.{wellFormed}
 use Rattle.positions.specs.Members.{has}
 use Rattle.graph.specs.Refusals.{covered}
 use Rattle.graph.specs.Cuts.{isCritical}
 use Rattle.graph.specs.Removals.{closed, kept, rootedAt, flushed}
-use Rattle.graph.proofs.KeptLaws.{from}
+use Rattle.graph.proofs.KeptLaws.{from, rank-count}
 use Rattle.graph.proofs.RemainLaws.{was, was-kept, was-held, stands}
-use Rattle.graph.proofs.MeaningLaws.{flush-held, rank-count}
+use Rattle.graph.proofs.MeaningLaws.{flush-held}
 use Rattle.graph.proofs.FlushLaws.{covered-intro, covered-elim, critical-prefix}
+use Rattle.graph.proofs.RemovalCases.{stays, stays-held, flush-cases}
 use Rattle.promises.specs.Reached.{Versions}
 use Rattle.promises.specs.Demand.{SameNote}
 use Rattle.promises.specs.Documented.{IsCut, FlushedPrefix}
 use Rattle.graph.specs.declared.EventGraph.{EventGraph}
+use Rattle.graph.specs.declared.Removed.{Removed}
 use Rattle.promises.proofs.LogOk.{LogOk}
-use Rattle.promises.proofs.RemainLog.{picks-held}
 use Rattle.promises.proofs.Documented.{cut-exact}
 
 -- where what is picked is all from m on, as many are picked below a as a exceeds m
@@ -46,24 +47,13 @@ count-stops f n (suc a) l h = elim (ℕ-discrete n (suc a)) [
 ]
 
 module _ (g : EventGraph) (W : Versions) (ok : LogOk g W) (v : List ℕ) (accepted : flushed g v .refusal ≡ 0) where
-  abbrev stays : ℕ → Bool
-  stays k = ltb k (g .held) && not (covered g v k)
-
   -- the two lines of the table
   tests : (wellFormed (g .named .len) v ≡ true) × (isCritical g v ≡ true)
-  unfolding flushed
-  tests = ⊎-elim
-      (λ (t : wellFormed (g .named .len) v ≡ true). ⊎-elim
-      (λ (c : isCritical g v ≡ true). (t, c))
-      (λ (c : isCritical g v ≡ false). absurd (let z : _≡_ {A = ℕ} 9 0 = rw (t, c) at accepted in omega arith)) (true-or-false (isCritical g v)))
-      (λ (t : wellFormed (g .named .len) v ≡ false). absurd (let z : _≡_ {A = ℕ} 3 0 = rw t at accepted in omega arith)) (true-or-false (wellFormed (g .named .len) v))
+  tests = flush-cases (λ (x : Removed). x .refusal ≡ 0 → (wellFormed (g .named .len) v ≡ true) × (isCritical g v ≡ true)) g v (λ t c e. (t, c)) (λ n z e. absurd (z e)) accepted
 
-  flushed-is : flushed g v .graph ≡ rootedAt (kept g stays) v
+  flushed-is : flushed g v .graph ≡ rootedAt (kept g (stays g v)) v
   unfolding flushed
   flushed-is = rw (tests .0, tests .1)
-
-  stays-held : (k : ℕ) → k < 256 → stays k ≡ true → k < g .held
-  stays-held = picks-held g (λ k. not (covered g v k))
 
   cut-or-none : (m : ℕ) → (m ≡ 0) ⊎ (has (g .cuts) (m - 1) ≡ true) → (m ≡ 0) ⊎ IsCut g W m
   cut-or-none zero h = inl refl
@@ -72,26 +62,26 @@ module _ (g : EventGraph) (W : Versions) (ok : LogOk g W) (v : List ℕ) (accept
       ⊎-elim (λ (e : suc k ≡ 0). absurd (omega arith)) (λ (c : has (g .cuts) (suc k - 1) ≡ true). inr (cut-exact g W ok k .0 (rw s at c))) h
 
   module _ (m : ℕ) (most : m ≤ g .held) (exact : (k : ℕ) → k < g .held → covered g v k ≡ ltb k m) where
-    stays-from : (k : ℕ) → k < g .held → stays k ≡ not (ltb k m)
+    stays-from : (k : ℕ) → k < g .held → stays g v k ≡ not (ltb k m)
     stays-from k l = rw (lt-ltb k (g .held) l, exact k l)
 
-    all-stay : countBelow stays 256 ≡ g .held - m
-    all-stay = count-stops stays (g .held) 256 (ok .graph .room) (λ k l. rw (le-ltb k (g .held) l)) ∙ count-from stays m (g .held) stays-from
+    all-stay : countBelow (stays g v) 256 ≡ g .held - m
+    all-stay = count-stops (stays g v) (g .held) 256 (ok .graph .room) (λ k l. rw (le-ltb k (g .held) l)) ∙ count-from (stays g v) m (g .held) stays-from
 
     -- what is at k stood at m + k
-    shift : (k : ℕ) (l : k < countBelow stays 256) → was g stays (ok .graph) stays-held k l ≡ m + k
+    shift : (k : ℕ) (l : k < countBelow (stays g v) 256) → was g (stays g v) (ok .graph) (stays-held g v) k l ≡ m + k
     shift k l =
-        let a = was g stays (ok .graph) stays-held k l in
-        let b = was-held g stays (ok .graph) stays-held k l in
-        let c = count-from stays m a (λ j q. stays-from j (omega arith)) in
-        let d = rank-count stays a (omega (arith, b, ok .graph .room)) in
-        let e = ltb-false a m (not-true (ltb a m) (sym (stays-from a b) ∙ was-kept g stays (ok .graph) stays-held k l)) in
-        omega (arith, c, d, e, from g stays (ok .graph) stays-held k l .is-rank)
+        let a = was g (stays g v) (ok .graph) (stays-held g v) k l in
+        let b = was-held g (stays g v) (ok .graph) (stays-held g v) k l in
+        let c = count-from (stays g v) m a (λ j q. stays-from j (omega arith)) in
+        let d = rank-count (stays g v) a (omega (arith, b, ok .graph .room)) in
+        let e = ltb-false a m (not-true (ltb a m) (sym (stays-from a b) ∙ was-kept g (stays g v) (ok .graph) (stays-held g v) k l)) in
+        omega (arith, c, d, e, from g (stays g v) (ok .graph) (stays-held g v) k l .is-rank)
 
-    at : (xs : List ℕ) (k : ℕ) → k < countBelow stays 256 → getD (closed stays xs) k 0 ≡ getD xs (m + k) 0
-    at xs k l = stands g stays (ok .graph) stays-held xs k l ∙ ap (λ (x : ℕ). getD xs x 0) (shift k l)
+    at : (xs : List ℕ) (k : ℕ) → k < countBelow (stays g v) 256 → getD (closed (stays g v) xs) k 0 ≡ getD xs (m + k) 0
+    at xs k l = stands g (stays g v) (ok .graph) (stays-held g v) xs k l ∙ ap (λ (x : ℕ). getD xs x 0) (shift k l)
 
-    same-notes : (k : ℕ) → k < rootedAt (kept g stays) v .held → SameNote (rootedAt (kept g stays) v) g k (m + k)
+    same-notes : (k : ℕ) → k < rootedAt (kept g (stays g v)) v .held → SameNote (rootedAt (kept g (stays g v)) v) g k (m + k)
     unfolding kept
     same-notes k l = record {
       id = record { replica = at (g .replicas) k l; seq = at (g .seqs) k l; code = at (g .codes) k l };
@@ -99,7 +89,7 @@ module _ (g : EventGraph) (W : Versions) (ok : LogOk g W) (v : List ℕ) (accept
       op = at (g .ops) k l;
     }
 
-    number : m + rootedAt (kept g stays) v .held ≡ g .held
+    number : m + rootedAt (kept g (stays g v)) v .held ≡ g .held
     unfolding kept
     number = omega (arith, all-stay)
 

@@ -1,28 +1,27 @@
 -- Critical frontiers and the greatest one inside a bound are what document 01 says of cuts over versions.
-use mathlib.Core.Bool.{Bool, true, false, _&&_, not, true≢false}
+use mathlib.Core.Bool.{Bool, true, false, _&&_, not}
 use mathlib.Core.List.{List}
 use mathlib.Core.Logic.{_⊎_, _↔_, inl, inr, ⊎-elim}
 use mathlib.Core.Path.{_≡_, refl, sym, ap, _∙_}
 use Prim.Native.Nat.{ℕ, zero, suc, _-_, _<_, _≤_}
 use native.Mathlib.Nat.{le-antisymm}
-use native.Mathlib.Decide.{ℕ-discrete}
 use native.Mathlib.Omega.{arith}
 use lib.Dec.{ltb}
 use borrow.Author.Tests.{lt-ltb, ltb-true, not-true}
-use Rattle.laws.specs.Counting.{pick, allBelow}
+use Rattle.laws.specs.Counting.{pick, allBelow, lastBelow}
 use Rattle.laws.proofs.Orders.{le-or-lt, and-both, true-or-false, imp-of, of-imp}
 use Rattle.laws.proofs.Counting.{all-intro, all-elim}
-use Rattle.laws.proofs.Searching.{last-none, last-at}
+use Rattle.laws.proofs.Searching.{last-is, last-up}
 use Rattle.laws.proofs.Lists.{getD-zeros}
 use Rattle.clocks.specs.Vectors.{entry, wellFormed, atMost}
 use Rattle.clocks.specs.Frontiers.{zeros}
-use Rattle.clocks.proofs.Vectors.{at-most-intro, at-most-elim, at-most-antisym}
+use Rattle.clocks.proofs.Vectors.{at-most-intro, at-most-elim}
 use Rattle.positions.specs.Members.{has}
 use Rattle.graph.specs.Refusals.{covered}
 use Rattle.graph.specs.Graphs.{appended}
-use Rattle.graph.specs.Cuts.{baseOf, prefixFrontier, cutInside, outside, frontierFound, greatest, sameVector, atBase, isCritical}
+use Rattle.graph.specs.Cuts.{baseOf, prefixFrontier, cutInside, outside, frontierFound, greatest, atBase, isCritical}
 use Rattle.graph.specs.Invariant.{replicaAt, seqAt}
-use Rattle.graph.proofs.FlushLaws.{covered-intro, covered-elim, desk-small, prefix-base, prefix-up, prefix-hit, AtCut, critical-exactly}
+use Rattle.graph.proofs.FlushLaws.{covered-intro, covered-elim, desk-small, prefix-base, prefix-up, prefix-hit, AtCut, critical-exactly, inside, same-entries, same-intro}
 use Rattle.promises.specs.Reached.{Versions, versionAt}
 use Rattle.promises.specs.Documented.{Covers, IsCut, rootAt, FrontierOf, CriticalFrontier, CutInside, GreatestInside, HasAnswer}
 use Rattle.clocks.specs.declared.causal_frontier.CausalFrontier.{CausalFrontier}
@@ -55,12 +54,6 @@ frontier-same g n v w e a = record {
   one = λ r. rw (← e r) (a .one r);
 }
 
-same-vector : (v w : List ℕ) → (sameVector v w ≡ true) ↔ ((r : ℕ) → entry v r ≡ entry w r)
-same-vector v w = (
-  (λ e. let a = and-both (atMost v w) (atMost w v) e in at-most-antisym v w (a .0) (a .1)),
-  λ h. rw (at-most-intro v w (λ r. omega (arith, h r)), at-most-intro w v (λ r. omega (arith, h r))),
-)
-
 module _ (g : EventGraph) (W : Versions) (ok : LogOk g W) where
   pub prefix-is : (n : ℕ) → n ≤ g .held → FrontierOf g n (prefixFrontier g n .entries)
   prefix-is n l = record {
@@ -84,8 +77,8 @@ module _ (g : EventGraph) (W : Versions) (ok : LogOk g W) where
 
   at-base : (v : List ℕ) → (atBase g v ≡ true) ↔ ((r : ℕ) → entry v r ≡ rootAt g r)
   at-base v = (
-    (λ e r. sym (same-vector (baseOf g .entries) v .0 e r) ∙ base-root g r),
-    λ h. same-vector (baseOf g .entries) v .1 (λ r. base-root g r ∙ sym (h r)),
+    (λ e r. sym (same-entries (baseOf g .entries) v e r) ∙ base-root g r),
+    λ h. same-intro (baseOf g .entries) v (λ r. base-root g r ∙ sym (h r)),
   )
 
   pub critical-documented : (v : List ℕ) → wellFormed (g .named .len) v ≡ true → (isCritical g v ≡ true) ↔ CriticalFrontier g W v
@@ -98,12 +91,12 @@ module _ (g : EventGraph) (W : Versions) (ok : LogOk g W) where
       there : AtCut g v → (n : ℕ) × IsCut g W n × FrontierOf g n v
       there c =
           let i = cut-exact g W ok (c .0) .0 (c .1) in
-          (suc (c .0), i, frontier-same g (suc (c .0)) (prefixFrontier g (suc (c .0)) .entries) v (same-vector (prefixFrontier g (suc (c .0)) .entries) v .0 (c .2)) (prefix-is (suc (c .0)) (i .most)))
+          (suc (c .0), i, frontier-same g (suc (c .0)) (prefixFrontier g (suc (c .0)) .entries) v (same-entries (prefixFrontier g (suc (c .0)) .entries) v (c .2)) (prefix-is (suc (c .0)) (i .most)))
 
       back : (n : ℕ) → IsCut g W n → FrontierOf g n v → AtCut g v
       back zero c f = absurd (omega (arith, c .some))
       back (suc k) c f =
-          (k, cut-exact g W ok k .1 c, same-vector (prefixFrontier g (suc k) .entries) v .1 (frontier-unique g (suc k) (prefixFrontier g (suc k) .entries) v (prefix-is (suc k) (c .most)) f))
+          (k, cut-exact g W ok k .1 c, same-intro (prefixFrontier g (suc k) .entries) v (frontier-unique g (suc k) (prefixFrontier g (suc k) .entries) v (prefix-is (suc k) (c .most)) f))
 
   -- ---- no note behind a flush
 
@@ -119,24 +112,11 @@ module _ (g : EventGraph) (W : Versions) (ok : LogOk g W) where
 
 -- ---- the greatest cut inside a bound
 
--- either none below n satisfies a test, or one does and none above it
-last-or-none : (f : ℕ → Bool) (n : ℕ) → ((k : ℕ) → k < n → f k ≡ false) ⊎ ((j : ℕ) × (j < n) × (f j ≡ true) × ((k : ℕ) → j < k → k < n → f k ≡ false))
-last-or-none f zero = inl (λ k l. absurd (omega arith))
-last-or-none f (suc n) = ⊎-elim
-    (λ (t : f n ≡ true). inr (n, omega arith, t, λ k a b. absurd (omega arith)))
-    (λ (z : f n ≡ false). ⊎-elim
-    (λ (h : (k : ℕ) → k < n → f k ≡ false). inl (λ k l. elim (ℕ-discrete k n) [ yes e ↦ rw e z | no e ↦ h k (omega arith) ]))
-    (λ (w : (j : ℕ) × (j < n) × (f j ≡ true) × ((k : ℕ) → j < k → k < n → f k ≡ false)).
-    inr (w .0, omega (arith, w .1), w .2, λ k a l. elim (ℕ-discrete k n) [ yes e ↦ rw e z | no e ↦ w .3 k a (omega arith) ])) (last-or-none f n)) (true-or-false (f n))
-
 module _ (g : EventGraph) (W : Versions) (ok : LogOk g W) (bound : List ℕ) where
-  abbrev inside : ℕ → Bool
-  inside k = has (g .cuts) k && allBelow (covered g bound) (suc k)
-
-  inside-exact : (k : ℕ) → (inside k ≡ true) ↔ CutInside g W bound (suc k)
+  inside-exact : (k : ℕ) → (inside g bound k ≡ true) ↔ CutInside g W bound (suc k)
   inside-exact k = (there, back)
     where
-      there : inside k ≡ true → CutInside g W bound (suc k)
+      there : inside g bound k ≡ true → CutInside g W bound (suc k)
       there e =
           let a = and-both (has (g .cuts) k) (allBelow (covered g bound) (suc k)) e in
           record {
@@ -144,7 +124,7 @@ module _ (g : EventGraph) (W : Versions) (ok : LogOk g W) (bound : List ℕ) whe
             contained = λ j l. covered-elim g bound j (all-elim (covered g bound) (suc k) (a .1) j l) .1;
           }
 
-      back : CutInside g W bound (suc k) → inside k ≡ true
+      back : CutInside g W bound (suc k) → inside g bound k ≡ true
       back c = rw (cut-exact g W ok k .1 (c .cut)) (all-intro (covered g bound) (suc k) (λ j l. covered-intro g bound j (omega (arith, c .cut .most)) (c .contained j l)))
 
   outside-exact : (outside g bound ≡ false) ↔ ((r : ℕ) → rootAt g r ≤ entry bound r)
@@ -172,17 +152,18 @@ module _ (g : EventGraph) (W : Versions) (ok : LogOk g W) (bound : List ℕ) whe
   inside-cases : NoneInside ⊎ SomeInside
   unfolding cutInside
   inside-cases = ⊎-elim
-      (λ (h : (k : ℕ) → k < 256 → inside k ≡ false). inl (last-none inside 256 h, none h))
-      (λ (w : (j : ℕ) × (j < 256) × (inside j ≡ true) × ((k : ℕ) → j < k → k < 256 → inside k ≡ false)).
-      inr (w .0, last-at inside 256 (w .0) (w .1) (w .2) (w .3), record { inside = inside-exact (w .0) .0 (w .2); greatest = highest (w .0) (w .3) })) (last-or-none inside 256)
+      (λ (z : lastBelow (inside g bound) 256 ≤ 0). inl (omega arith, none z))
+      (λ (p : 0 < lastBelow (inside g bound) 256).
+      let w = last-is (inside g bound) 256 p in
+      inr (w .0, w .3, record { inside = inside-exact (w .0) .0 (w .2); greatest = highest (w .0) (w .3) })) (le-or-lt (lastBelow (inside g bound) 256) 0)
     where
-      none : ((k : ℕ) → k < 256 → inside k ≡ false) → (n : ℕ) → CutInside g W bound n → ⊥
-      none h zero c = omega (arith, c .cut .some)
-      none h (suc k) c = true≢false (sym (inside-exact k .1 c) ∙ h k (small k c))
+      none : lastBelow (inside g bound) 256 ≤ 0 → (n : ℕ) → CutInside g W bound n → ⊥
+      none z zero c = omega (arith, c .cut .some)
+      none z (suc k) c = omega (arith, last-up (inside g bound) 256 k (small k c) (inside-exact k .1 c))
 
-      highest : (j : ℕ) → ((k : ℕ) → j < k → k < 256 → inside k ≡ false) → (m : ℕ) → CutInside g W bound m → m ≤ suc j
-      highest j h zero c = omega arith
-      highest j h (suc k) c = ⊎-elim (λ (q : k ≤ j). omega arith) (λ (q : j < k). absurd (true≢false (sym (inside-exact k .1 c) ∙ h k q (small k c)))) (le-or-lt k j)
+      highest : (j : ℕ) → lastBelow (inside g bound) 256 ≡ suc j → (m : ℕ) → CutInside g W bound m → m ≤ suc j
+      highest j e zero c = omega arith
+      highest j e (suc k) c = omega (arith, e, last-up (inside g bound) 256 k (small k c) (inside-exact k .1 c))
 
   picked : (b : Bool) (f z : CausalFrontier) → pick b (frontierFound 0 true f) (frontierFound 0 false z) .found ≡ b
   picked true f z = refl

@@ -3,36 +3,17 @@ use mathlib.Core.Bool.{true, false, true≢false}
 use mathlib.Core.Logic.{_⊎_, _↔_, inl, inr, ⊎-elim}
 use mathlib.Core.Path.{_≡_, sym, _∙_}
 use Prim.Native.Nat.{ℕ, zero, suc, _+_, _<_, _≤_}
-use native.Mathlib.Decide.{ℕ-discrete}
 use native.Mathlib.Omega.{arith}
 use Rattle.laws.specs.Counting.{anyBelow}
 use Rattle.laws.proofs.Orders.{le-or-lt, true-or-false}
 use Rattle.laws.proofs.Counting.{any-elim}
-use Rattle.laws.proofs.Searching.{any-false}
+use Rattle.laws.proofs.Searching.{any-false, decided-prefix}
 use Rattle.graph.specs.Slots.{descends}
 use Rattle.promises.specs.Reached.{Versions, versionAt}
 use Rattle.promises.specs.Documented.{Covers, Before, IsCut, Under, CriticalVersion, MaximalBelow}
 use Rattle.graph.specs.declared.EventGraph.{EventGraph}
 use Rattle.promises.proofs.LogOk.{LogOk}
 use Rattle.promises.proofs.Documented.{before-of, of-before, before-through}
-
--- what is decided and holds of all before is a prefix
-decided-prefix : (C : ℕ → Type 0) (n : ℕ) → ((k : ℕ) → k < n → C k ⊎ (C k → ⊥)) → ((j k : ℕ) → j < k → k < n → C k → C j)
-    → (m : ℕ) × (m ≤ n) × ((k : ℕ) → k < n → C k ↔ (k < m))
-decided-prefix C zero h down = (0, omega arith, λ k l. absurd (omega arith))
-decided-prefix C (suc n) h down = ⊎-elim
-    (λ (c : C n). (suc n, omega arith, λ k l. ((λ x. l), λ x. all c k l)))
-    (λ (z : C n → ⊥). let w = decided-prefix C n (λ k l. h k (omega arith)) (λ j k a b. down j k a (omega arith)) in (
-      w .0,
-      omega (arith, w .1),
-      λ k l. elim (ℕ-discrete k n) [
-        | yes e ↦ rw e ((λ c. absurd (z c)), λ q. absurd (omega (arith, w .1)))
-        | no e ↦ w .2 k (omega arith)
-      ],
-    )) (h n (omega arith))
-  where
-    all : C n → (k : ℕ) → k < suc n → C k
-    all c k l = elim (ℕ-discrete k n) [ yes e ↦ rw e c | no e ↦ down k n (omega arith) (omega arith) c ]
 
 module _ (g : EventGraph) (W : Versions) (ok : LogOk g W) where
   -- what is below a member, or a member, has its past below one

@@ -1,5 +1,5 @@
 -- Append keeps what a log holds: a new note is no held one's, so it stands beside the others with its version; and none is accepted twice.
-use mathlib.Core.Bool.{true, false, _&&_, false≢true}
+use mathlib.Core.Bool.{true, false, false≢true}
 use mathlib.Core.List.{List, _∷_}
 use mathlib.Core.Logic.{_⊎_, inl, inr, ⊎-elim}
 use mathlib.Core.Path.{_≡_, refl, sym, ap, _∙_}
@@ -9,24 +9,25 @@ use native.Mathlib.Omega.{arith}
 use lib.Dec.{eqb}
 use lib.ListN.{length-set}
 use lib.Seq.{getD-set-same, getD-set-other}
-use borrow.Author.Tests.{lt-ltb, eq-eqb, eqb-true}
+use borrow.Author.Tests.{eq-eqb, eqb-true}
 use Rattle.laws.specs.Counting.{pick}
 use Rattle.laws.proofs.Orders.{true-or-false}
-use Rattle.laws.proofs.Searching.{any-false}
 use Rattle.clocks.specs.Vectors.{entry}
 use Rattle.clocks.proofs.Vectors.{well-formed-for}
-use Rattle.graph.specs.Slots.{codeOf, sameSlot, isAt}
-use Rattle.graph.specs.Refusals.{idAt, isKnown, refusalOf}
+use Rattle.graph.specs.Slots.{codeOf}
+use Rattle.graph.specs.Refusals.{refusalOf}
 use Rattle.graph.specs.Graphs.{pushed, appended}
-use Rattle.graph.specs.Invariant.{GraphOk, NotesOk, replicaAt, seqAt, codeAt}
+use Rattle.graph.specs.Invariant.{replicaAt, seqAt, codeAt}
 use Rattle.graph.proofs.DescentLaws.{accepted-facts}
-use Rattle.graph.proofs.NotesLaws.{OneMore, push-one-more, more-notes}
+use Rattle.graph.proofs.NotesLaws.{OneMore, push-one-more, more-notes, other-id}
 use Rattle.promises.specs.Reached.{Versions, withVersion}
 use Rattle.promises.specs.Demand.{Note, Last, never, at, Among, here, there}
 use Rattle.clocks.specs.declared.event.Event.{Event}
 use Rattle.clocks.specs.declared.id.EventId.{EventId}
 use Rattle.graph.specs.declared.EventGraph.{EventGraph}
 use Rattle.promises.proofs.WhatIsHeld.{NoteAt, Contained, RootsAre, Holding, note-moves}
+use Rattle.promises.proofs.LogOk.{LogOk}
+use Rattle.promises.proofs.AppendLog.{old-version, new-version}
 
 roots-stay : (start g h : EventGraph) (last : Last) → h .rooted ≡ g .rooted → h .roots ≡ g .roots → RootsAre start g last → RootsAre start h last
 roots-stay start g h never a b r = (a ∙ r .0, b ∙ r .1)
@@ -36,15 +37,7 @@ among-cases : {n m : Note} {ns : List Note} → Among n (m ∷ ns) → (n ≡ m)
 among-cases here = inl refl
 among-cases (there a) = inr a
 
--- the id of an accepted event stands in no slot
-other-id : (g : EventGraph) (id : EventId) (v : List ℕ) → NotesOk g → GraphOk g → refusalOf g id v ≡ 0 → (k : ℕ) → k < g .held
-    → ((eqb (replicaAt g k) (id .idx .0) && eqb (seqAt g k) (id .seq)) && eqb (codeAt g k) (codeOf (id .disambiguator))) ≡ false
-unfolding isKnown isAt sameSlot
-other-id g id v notes ok r k l =
-    let z = any-false (idAt g id) 256 (accepted-facts g id v r .new) k (omega (arith, ok .room)) in
-    rw (lt-ltb k (g .held) l) at z
-
-module _ (start g : EventGraph) (W : Versions) (ns : List Note) (last : Last) (ok : GraphOk g) (notes : NotesOk g) (held : Holding start g W ns last) where
+module _ (start g : EventGraph) (W : Versions) (ns : List Note) (last : Last) (ok : LogOk g W) (held : Holding start g W ns last) where
   module _ (e : Event) (v : List ℕ) (taken : refusalOf g (e .id) v ≡ 0) where
     abbrev more : EventGraph
     more = pushed g e v
@@ -58,7 +51,7 @@ module _ (start g : EventGraph) (W : Versions) (ns : List Note) (last : Last) (o
     one-more : OneMore g more (e .id) v
     one-more =
         let a = accepted-facts g (e .id) v taken in
-        push-one-more g e v ok notes (a .fits) (well-formed-for (g .named .len) v (e .id) (a .vector) .0)
+        push-one-more g e v (ok .graph) (ok .notes) (a .fits) (well-formed-for (g .named .len) v (e .id) (a .vector) .0)
 
     -- the new one
     new-note : NoteAt more versions (g .held) note
@@ -73,14 +66,7 @@ module _ (start g : EventGraph) (W : Versions) (ns : List Note) (last : Last) (o
           code = p .newCode;
           lamport = getD-set-same (g .lamports) (g .held) (e .lamport) 0 (omega (arith, held .tables .0));
           op = getD-set-same (g .ops) (g .held) (e .op) 0 (omega (arith, held .tables .1));
-          version = rw (
-            p .newReplica,
-            p .newSeq,
-            p .newCode,
-            eq-eqb (e .id .idx .0) (e .id .idx .0) refl,
-            eq-eqb (e .id .seq) (e .id .seq) refl,
-            eq-eqb (codeOf (e .id .disambiguator)) (codeOf (e .id .disambiguator)) refl,
-          );
+          version = new-version g more W (e .id) v ok taken p;
         }
 
     -- an old one
@@ -92,7 +78,7 @@ module _ (start g : EventGraph) (W : Versions) (ns : List Note) (last : Last) (o
         note-moves k k n (omega arith) (p .oldReplica k l) (p .oldSeq k l) (p .oldCode k l)
         (getD-set-other (g .lamports) (g .held) k (e .lamport) 0 (λ z. omega arith))
         (getD-set-other (g .ops) (g .held) k (e .op) 0 (λ z. omega arith))
-        (rw (p .oldReplica k l, p .oldSeq k l, p .oldCode k l, other-id g (e .id) v notes ok taken k l)) a
+        (old-version g more W (e .id) v ok taken p k l) a
 
     push-holding : Holding start more versions (note ∷ ns) last
     unfolding pushed
@@ -124,7 +110,7 @@ module _ (start g : EventGraph) (W : Versions) (ns : List Note) (last : Last) (o
   accepted-once e v n a same taken = ⊎-elim (gone last (held .roots))
       (λ (w : (k : ℕ) × NoteAt g W k n).
       let s = w .1 in
-      let z = other-id g (e .id) v notes ok taken (w .0) (s .small) in
+      let z = other-id g (e .id) v (ok .graph) taken (w .0) (s .small) in
       false≢true (sym z ∙ rw (
         eq-eqb (replicaAt g (w .0)) (e .id .idx .0) (s .replica ∙ ap (λ (i : EventId). i .idx .0) same),
         eq-eqb (seqAt g (w .0)) (e .id .seq) (s .seq ∙ ap (λ (i : EventId). i .seq) same),
@@ -134,7 +120,7 @@ module _ (start g : EventGraph) (W : Versions) (ns : List Note) (last : Last) (o
       above : entry (g .roots .entries) (e .id .idx .0) < e .id .seq
       above =
           let p = one-more e v taken in
-          let m = more-notes g (e .id) v notes taken (pushed g e v) p .aboveRoots (g .held) (omega (arith, p .held)) in
+          let m = more-notes g (e .id) v (ok .notes) taken (pushed g e v) p .aboveRoots (g .held) (omega (arith, p .held)) in
           rw (p .roots, p .newReplica, p .newSeq) at m
 
       gone : (last : Last) → RootsAre start g last → Contained last n → ⊥

@@ -5,9 +5,7 @@ use mathlib.Core.Path.{_≡_, sym, _∙_}
 use Prim.Native.Nat.{ℕ, _<_, _≤_}
 use native.Mathlib.Decide.{ℕ-discrete}
 use native.Mathlib.Omega.{arith}
-use lib.Dec.{leb, ltb}
-use borrow.Author.Tests.{lt-ltb, leb-true}
-use Rattle.laws.proofs.Orders.{le-or-lt, and-both, true-or-false}
+use Rattle.laws.proofs.Orders.{le-or-lt, is-false}
 use Rattle.clocks.specs.Vectors.{entry}
 use Rattle.graph.specs.Slots.{descends}
 use Rattle.graph.specs.Graphs.{parents, heads}
@@ -17,6 +15,7 @@ use Rattle.promises.specs.Reached.{Versions, versionAt}
 use Rattle.promises.specs.Demand.{SameId, SameNote, Holds}
 use Rattle.graph.specs.declared.EventGraph.{EventGraph}
 use Rattle.promises.proofs.LogOk.{LogOk}
+use Rattle.promises.proofs.Documented.{before-of, of-before}
 
 -- every note of the one is held in the other, with the same version
 abbrev pub Found : EventGraph → Versions → EventGraph → Versions → Type 0
@@ -86,18 +85,15 @@ module _ {g h : EventGraph} {W U : Versions} (m : Match g W h U) where
   pub descends-over : (i j a b : ℕ) → i < g .held → a < h .held → b < h .held → SameId g h i a → SameId g h j b
       → descends (g .pasts) i j ≡ true → descends (h .pasts) a b ≡ true
   descends-over i j a b l p q s t d =
-      let e = m .left .graph .earlier i j l d in
-      let c = and-both (ltb j i) (leb (seqAt g j) (entry (versionAt g W i) (replicaAt g j))) (sym (m .left .descent i j l (omega arith)) ∙ d) in
-      let v : leb (seqAt h b) (entry (versionAt h U a) (replicaAt h b)) ≡ true = rw (t .seq, t .replica, one-version i a l p s) at (c .1) in
-      let o = before i j a b l p q s t e (leb-true (seqAt h b) (entry (versionAt h U a) (replicaAt h b)) v) in
-      m .right .descent a b p q ∙ rw (lt-ltb b a o, v)
+      let x = before-of g W (m .left) i j l d in
+      let v : seqAt h b ≤ entry (versionAt h U a) (replicaAt h b) = rw (t .seq, t .replica, one-version i a l p s) at (x .covered) in
+      of-before h U (m .right) a b (record { held = p; earlier = before i j a b l p q s t (x .earlier) v; covered = v })
 
 module _ {g h : EventGraph} {W U : Versions} (m : Match g W h U) where
   pub descends-not : (i j a b : ℕ) → i < g .held → j < g .held → a < h .held → SameId g h i a → SameId g h j b
       → descends (g .pasts) i j ≡ false → descends (h .pasts) a b ≡ false
-  descends-not i j a b l q p s t d = ⊎-elim
-      (λ (y : descends (h .pasts) a b ≡ true). absurd (true≢false (sym (descends-over (swapped m) a b i j p l q (same-back s) (same-back t) y) ∙ d)))
-      (λ (z : descends (h .pasts) a b ≡ false). z) (true-or-false (descends (h .pasts) a b))
+  descends-not i j a b l q p s t d =
+      is-false (descends (h .pasts) a b) (λ y. true≢false (sym (descends-over (swapped m) a b i j p l q (same-back s) (same-back t) y) ∙ d))
 
   -- ---- parents and heads are defined from descent
 
