@@ -20,7 +20,7 @@ use Rattle.listing.proofs.Spelling.{length-last, places-last, places-mo
 glyph : (d : ℕ) → d < 10 → isDigit (48 + d) ≡ true
 glyph d h = rw (le-leb 48 (48 + d) (omega arith), le-leb (48 + d) 57 (omega arith))
 
-digits-last : (k n : ℕ) (rest : List ℕ) → digitsIn (lastDigits k n ++ rest) ≡ k + digitsIn rest
+pub digits-last : (k n : ℕ) (rest : List ℕ) → digitsIn (lastDigits k n ++ rest) ≡ k + digitsIn rest
 unfolding lastDigits digitsIn
 digits-last zero n rest = omega arith
 digits-last (suc k) n rest =

@@ -74,7 +74,7 @@ fn room_behind(limit: usize, len: usize) -> usize
 }
 
 // The lesser of two.
-fn least(a: usize, b: usize) -> usize
+pub(super) fn least(a: usize, b: usize) -> usize
     ensures { λ r. ⌜ r ≡ min a b ⌝ }
 {
     if a < b { a } else { b }

@@ -1,0 +1,98 @@
+-- Words of a line: where the first ends, and which of the fixed texts it is.
+use mathlib.Core.Bool.{Bool, true, false, false≢true}
+use mathlib.Core.List.{List, [], _∷_}
+use mathlib.Core.Logic.{⊎-elim}
+use mathlib.Core.Path.{_≡_, refl, sym, ap₂}
+use Prim.Native.Nat.{ℕ, suc, _≤_, _<_}
+use native.Mathlib.Decide.{ℕ-discrete}
+use native.Mathlib.Omega.{arith}
+use lib.Dec.{eqb, leb}
+use lib.ListN.{length, drop, getD, drop-of-length-le, List·getD-eq-default}
+use lib.Seq.{drop-cons}
+use borrow.Author.Tests.{eq-eqb, ne-eqb}
+use Rattle.laws.proofs.Orders.{le-or-lt, true-or-false}
+use Rattle.laws.specs.Counting.{pick}
+use Rattle.listing.specs.Commands.{withNumber, withId, spacedNumber, spacedId, replicasLine, removeLine, sheetLine, nothing}
+use Rattle.listing.specs.Text.{Same}
+use Rattle.listing.specs.Words.{sameBytes, beforeSpace}
+use Rattle.listing.specs.declared.command.Command.the-variants.{Replicas, Remove, Sheet}
+use Rattle.listing.specs.declared.command.Read.{Read}
+use Rattle.listing.specs.declared.command.Read.the-variants.{Line}
+use Rattle.listing.specs.declared.fields.Named.{Named}
+use Rattle.listing.specs.declared.fields.Named.the-variants.{Id, NoId}
+use Rattle.listing.specs.declared.number.Number.{Number}
+use Rattle.listing.specs.declared.number.Number.the-variants.{Value, Bad}
+
+-- a byte that is not 0 stands within the line
+pub byte-within : (s : List ℕ) (at b : ℕ) → getD s at 0 ≡ b → 0 < b → at < length s
+byte-within s at b e h = ⊎-elim (λ (l : length s ≤ at). absurd (omega (arith, e, List·getD-eq-default s 0 l))) (λ (l : at < length s). l) (le-or-lt (length s) at)
+
+pub space-here : (s : List ℕ) (i : ℕ) → i < length s → getD s i 0 ≡ 32 → beforeSpace (drop i s) ≡ 0
+unfolding beforeSpace
+space-here s i h e = rw (drop-cons s i 0, eq-eqb (getD s i 0) 32 e)
+
+pub space-later : (s : List ℕ) (i : ℕ) → i < length s → (getD s i 0 ≡ 32 → ⊥) → beforeSpace (drop i s) ≡ suc (beforeSpace (drop (suc i) s))
+unfolding beforeSpace
+space-later s i h e = rw (drop-cons s i 0, ne-eqb (getD s i 0) 32 e)
+
+pub space-none : (s : List ℕ) (i : ℕ) → length s ≤ i → beforeSpace (drop i s) ≡ 0
+unfolding beforeSpace
+space-none s i h = rw (drop-of-length-le s h)
+
+-- a word ends within its line
+pub word-within : (s : List ℕ) → beforeSpace s ≤ length s
+unfolding beforeSpace
+word-within [] = omega arith
+word-within (b ∷ s) = half (eqb b 32) (word-within s)
+  where
+    half : (t : Bool) → beforeSpace s ≤ length s → pick t 0 (suc (beforeSpace s)) ≤ suc (length s)
+    half true h = omega arith
+    half false h = omega arith
+
+same-itself : (s : List ℕ) → sameBytes s s ≡ true
+unfolding sameBytes
+same-itself [] = refl
+same-itself (a ∷ s) = rw (eq-eqb a a refl) (same-itself s)
+
+same-sound : (s t : List ℕ) → sameBytes s t ≡ true → s ≡ t
+unfolding sameBytes
+same-sound [] [] e = refl
+same-sound [] (b ∷ t) e = absurd (false≢true e)
+same-sound (a ∷ s) [] e = absurd (false≢true e)
+same-sound (a ∷ s) (b ∷ t) e =
+    elim (ℕ-discrete a b) [
+      | yes q ↦ (ap₂ (λ (x : ℕ) (l : List ℕ). x ∷ l) q (same-sound s t (rw (eq-eqb a b q) at e)))
+      | no q ↦ absurd (false≢true (rw (ne-eqb a b q) at e))
+    ]
+
+-- what the comparison told is the test
+pub same-told : (s t : List ℕ) (r : Bool) → Same s t r → r ≡ sameBytes s t
+same-told s t true h = let e = h .sound refl in rw e (sym (same-itself t))
+same-told s t false h =
+    ⊎-elim (λ (e : sameBytes s t ≡ true). absurd (false≢true (h .complete (same-sound s t e)))) (λ (e : sameBytes s t ≡ false). sym e)
+    (true-or-false (sameBytes s t))
+
+either : (t : Bool) (r : Read) → pick t (r, []) nothing .1 ≡ []
+either true r = refl
+either false r = refl
+
+-- a line without a vector leaves the buffer
+pub replicas-none : (s : List ℕ) (at : ℕ) → replicasLine s at .1 ≡ []
+unfolding replicasLine
+replicas-none s at = by-number (spacedNumber s at)
+  where
+    by-number : (n : Number) → withNumber n nothing (λ r next. pick (leb (length s) next) (Line (Replicas r), []) nothing) .1 ≡ []
+    by-number (Value n next) = either (leb (length s) next) (Line (Replicas n))
+    by-number Bad = refl
+
+pub remove-none : (s : List ℕ) (at : ℕ) → removeLine s at .1 ≡ []
+unfolding removeLine
+remove-none s at = by-id (spacedId s at)
+  where
+    by-id : (n : Named) → withId n nothing (λ i next. pick (leb (length s) next) (Line (Remove i), []) nothing) .1 ≡ []
+    by-id (Id i next) = either (leb (length s) next) (Line (Remove i))
+    by-id NoId = refl
+
+pub sheet-none : (s : List ℕ) (at : ℕ) → sheetLine s at .1 ≡ []
+unfolding sheetLine
+sheet-none s at = either (leb (length s) at) (Line Sheet)

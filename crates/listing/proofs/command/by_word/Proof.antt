@@ -1,0 +1,156 @@
+-- The comparisons are those of the definition, in its order.
+use mathlib.Core.Path.{refl, sym, ap, _∙_}
+use mathlib.Core.List.{List}
+use Prim.Native.Nat.{ℕ}
+use borrow.Author.Needs.{needs}
+use Rattle.laws.specs.Lists.{written}
+use Rattle.listing.specs.Commands.{byWord}
+use Rattle.listing.specs.Words.{bytes}
+use Rattle.listing.proofs.Wording.{same-told, replicas-none, remove-none, sheet-none}
+use Rattle.listing.proofs.command.by_word.Statement.{statement}
+use Rattle.listing.proofs.command.by_word.Tie as tie
+
+slice-aggregate-same : tie.Need-slice-aggregate-same
+slice-aggregate-same c = search needs
+
+same-requires : tie.Need-same-requires
+same-requires c κs = search needs
+
+replicas-line-requires : tie.Need-replicas-line-requires
+replicas-line-requires c κs = search needs
+
+returns : tie.Need-returns
+unfolding byWord bytes
+returns c = rw (sym (same-told (c .before .before .before .before .before .before .before .args .word .now) (bytes "replicas") _ (c .before .before .same .ensures)) ∙ c .before .if1 .taken) (record { command = c .replicas-line .ensures; content = sym (ap (λ (l : List ℕ). written l (c .before .before .before .before .before .before .before .args .vector .now)) (replicas-none _ _)) })
+
+slice-aggregate-same-2 : tie.Need-slice-aggregate-same-2
+slice-aggregate-same-2 c = search needs
+
+same-requires-2 : tie.Need-same-requires-2
+same-requires-2 c κs = search needs
+
+append-line-requires : tie.Need-append-line-requires
+append-line-requires c κs = search needs
+
+same-length : tie.Need-same-length
+same-length c = search needs
+
+returns-2 : tie.Need-returns-2
+unfolding byWord bytes
+returns-2 c = rw (sym (same-told (c .before .before .before .before .before .before .before .before .before .before .before .before .before .args .word .now) (bytes "replicas") _ (c .before .before .before .before .before .before .before .before .same .ensures)) ∙ c .before .before .before .before .before .before .before .if1 .left, sym (same-told (c .before .before .before .before .before .before .before .before .before .before .before .before .before .args .word .now) (bytes "append") _ (c .before .before .before .before .before .same2 .ensures)) ∙ c .before .before .before .before .if2 .taken) (c .before .before .append-line .ensures)
+
+slice-aggregate-same-3 : tie.Need-slice-aggregate-same-3
+slice-aggregate-same-3 c = search needs
+
+same-requires-3 : tie.Need-same-requires-3
+same-requires-3 c κs = search needs
+
+greatest-line-requires : tie.Need-greatest-line-requires
+greatest-line-requires c κs = search needs
+
+same-length-2 : tie.Need-same-length-2
+same-length-2 c = search needs
+
+returns-3 : tie.Need-returns-3
+unfolding byWord bytes
+returns-3 c = rw (sym (same-told (c .before .before .before .before .before .before .before .before .before .before .before .before .before .before .before .before .args .word .now) (bytes "replicas") _ (c .before .before .before .before .before .before .before .before .before .before .before .same .ensures)) ∙ c .before .before .before .before .before .before .before .before .before .before .if1 .left, sym (same-told (c .before .before .before .before .before .before .before .before .before .before .before .before .before .before .before .before .args .word .now) (bytes "append") _ (c .before .before .before .before .before .before .before .before .same2 .ensures)) ∙ c .before .before .before .before .before .before .before .if2 .left, sym (same-told (c .before .before .before .before .before .before .before .before .before .before .before .before .before .before .before .before .args .word .now) (bytes "greatest") _ (c .before .before .before .before .before .same3 .ensures)) ∙ c .before .before .before .before .if3 .taken) (c .before .before .greatest-line .ensures)
+
+slice-aggregate-same-4 : tie.Need-slice-aggregate-same-4
+slice-aggregate-same-4 c = search needs
+
+same-requires-4 : tie.Need-same-requires-4
+same-requires-4 c κs = search needs
+
+check-line-requires : tie.Need-check-line-requires
+check-line-requires c κs = search needs
+
+same-length-3 : tie.Need-same-length-3
+same-length-3 c = search needs
+
+returns-4 : tie.Need-returns-4
+unfolding byWord bytes
+returns-4 c = rw (sym (same-told (c .before .before .before .before .before .before .before .before .before .before .before .before .before .before .before .before .before .before .before .args .word .now) (bytes "replicas") _ (c .before .before .before .before .before .before .before .before .before .before .before .before .before .before .same .ensures)) ∙ c .before .before .before .before .before .before .before .before .before .before .before .before .before .if1 .left, sym (same-told (c .before .before .before .before .before .before .before .before .before .before .before .before .before .before .before .before .before .before .before .args .word .now) (bytes "append") _ (c .before .before .before .before .before .before .before .before .before .before .before .same2 .ensures)) ∙ c .before .before .before .before .before .before .before .before .before .before .if2 .left, sym (same-told (c .before .before .before .before .before .before .before .before .before .before .before .before .before .before .before .before .before .before .before .args .word .now) (bytes "greatest") _ (c .before .before .before .before .before .before .before .before .same3 .ensures)) ∙ c .before .before .before .before .before .before .before .if3 .left, sym (same-told (c .before .before .before .before .before .before .before .before .before .before .before .before .before .before .before .before .before .before .before .args .word .now) (bytes "check") _ (c .before .before .before .before .before .same4 .ensures)) ∙ c .before .before .before .before .if4 .taken) (c .before .before .check-line .ensures)
+
+slice-aggregate-same-5 : tie.Need-slice-aggregate-same-5
+slice-aggregate-same-5 c = search needs
+
+same-requires-5 : tie.Need-same-requires-5
+same-requires-5 c κs = search needs
+
+flush-line-requires : tie.Need-flush-line-requires
+flush-line-requires c κs = search needs
+
+same-length-4 : tie.Need-same-length-4
+same-length-4 c = search needs
+
+returns-5 : tie.Need-returns-5
+unfolding byWord bytes
+returns-5 c = rw (sym (same-told (c .before .before .before .before .before .before .before .before .before .before .before .before .before .before .before .before .before .before .before .before .before .before .args .word .now) (bytes "replicas") _ (c .before .before .before .before .before .before .before .before .before .before .before .before .before .before .before .before .before .same .ensures)) ∙ c .before .before .before .before .before .before .before .before .before .before .before .before .before .before .before .before .if1 .left, sym (same-told (c .before .before .before .before .before .before .before .before .before .before .before .before .before .before .before .before .before .before .before .before .before .before .args .word .now) (bytes "append") _ (c .before .before .before .before .before .before .before .before .before .before .before .before .before .before .same2 .ensures)) ∙ c .before .before .before .before .before .before .before .before .before .before .before .before .before .if2 .left, sym (same-told (c .before .before .before .before .before .before .before .before .before .before .before .before .before .before .before .before .before .before .before .before .before .before .args .word .now) (bytes "greatest") _ (c .before .before .before .before .before .before .before .before .before .before .before .same3 .ensures)) ∙ c .before .before .before .before .before .before .before .before .before .before .if3 .left, sym (same-told (c .before .before .before .before .before .before .before .before .before .before .before .before .before .before .before .before .before .before .before .before .before .before .args .word .now) (bytes "check") _ (c .before .before .before .before .before .before .before .before .same4 .ensures)) ∙ c .before .before .before .before .before .before .before .if4 .left, sym (same-told (c .before .before .before .before .before .before .before .before .before .before .before .before .before .before .before .before .before .before .before .before .before .before .args .word .now) (bytes "flush") _ (c .before .before .before .before .before .same5 .ensures)) ∙ c .before .before .before .before .if5 .taken) (c .before .before .flush-line .ensures)
+
+slice-aggregate-same-6 : tie.Need-slice-aggregate-same-6
+slice-aggregate-same-6 c = search needs
+
+same-requires-6 : tie.Need-same-requires-6
+same-requires-6 c κs = search needs
+
+remove-line-requires : tie.Need-remove-line-requires
+remove-line-requires c κs = search needs
+
+returns-6 : tie.Need-returns-6
+unfolding byWord bytes
+returns-6 c = rw (sym (same-told (c .before .before .before .before .before .before .before .before .before .before .before .before .before .before .before .before .before .before .before .before .before .before .args .word .now) (bytes "replicas") _ (c .before .before .before .before .before .before .before .before .before .before .before .before .before .before .before .before .before .same .ensures)) ∙ c .before .before .before .before .before .before .before .before .before .before .before .before .before .before .before .before .if1 .left, sym (same-told (c .before .before .before .before .before .before .before .before .before .before .before .before .before .before .before .before .before .before .before .before .before .before .args .word .now) (bytes "append") _ (c .before .before .before .before .before .before .before .before .before .before .before .before .before .before .same2 .ensures)) ∙ c .before .before .before .before .before .before .before .before .before .before .before .before .before .if2 .left, sym (same-told (c .before .before .before .before .before .before .before .before .before .before .before .before .before .before .before .before .before .before .before .before .before .before .args .word .now) (bytes "greatest") _ (c .before .before .before .before .before .before .before .before .before .before .before .same3 .ensures)) ∙ c .before .before .before .before .before .before .before .before .before .before .if3 .left, sym (same-told (c .before .before .before .before .before .before .before .before .before .before .before .before .before .before .before .before .before .before .before .before .before .before .args .word .now) (bytes "check") _ (c .before .before .before .before .before .before .before .before .same4 .ensures)) ∙ c .before .before .before .before .before .before .before .if4 .left, sym (same-told (c .before .before .before .before .before .before .before .before .before .before .before .before .before .before .before .before .before .before .before .before .before .before .args .word .now) (bytes "flush") _ (c .before .before .before .before .before .same5 .ensures)) ∙ c .before .before .before .before .if5 .left, sym (same-told (c .before .before .before .before .before .before .before .before .before .before .before .before .before .before .before .before .before .before .before .before .before .before .args .word .now) (bytes "remove") _ (c .before .before .same6 .ensures)) ∙ c .before .if6 .taken) (record { command = c .remove-line .ensures; content = sym (ap (λ (l : List ℕ). written l (c .before .before .before .before .before .before .before .before .before .before .before .before .before .before .before .before .before .before .before .before .before .before .args .vector .now)) (remove-none _ _)) })
+
+slice-aggregate-same-7 : tie.Need-slice-aggregate-same-7
+slice-aggregate-same-7 c = search needs
+
+same-requires-7 : tie.Need-same-requires-7
+same-requires-7 c κs = search needs
+
+sheet-line-requires : tie.Need-sheet-line-requires
+sheet-line-requires c κs = search needs
+
+returns-7 : tie.Need-returns-7
+unfolding byWord bytes
+returns-7 c = rw (sym (same-told (c .before .before .before .before .before .before .before .before .before .before .before .before .before .before .before .before .before .before .before .before .before .before .before .before .before .args .word .now) (bytes "replicas") _ (c .before .before .before .before .before .before .before .before .before .before .before .before .before .before .before .before .before .before .before .before .same .ensures)) ∙ c .before .before .before .before .before .before .before .before .before .before .before .before .before .before .before .before .before .before .before .if1 .left, sym (same-told (c .before .before .before .before .before .before .before .before .before .before .before .before .before .before .before .before .before .before .before .before .before .before .before .before .before .args .word .now) (bytes "append") _ (c .before .before .before .before .before .before .before .before .before .before .before .before .before .before .before .before .before .same2 .ensures)) ∙ c .before .before .before .before .before .before .before .before .before .before .before .before .before .before .before .before .if2 .left, sym (same-told (c .before .before .before .before .before .before .before .before .before .before .before .before .before .before .before .before .before .before .before .before .before .before .before .before .before .args .word .now) (bytes "greatest") _ (c .before .before .before .before .before .before .before .before .before .before .before .before .before .before .same3 .ensures)) ∙ c .before .before .before .before .before .before .before .before .before .before .before .before .before .if3 .left, sym (same-told (c .before .before .before .before .before .before .before .before .before .before .before .before .before .before .before .before .before .before .before .before .before .before .before .before .before .args .word .now) (bytes "check") _ (c .before .before .before .before .before .before .before .before .before .before .before .same4 .ensures)) ∙ c .before .before .before .before .before .before .before .before .before .before .if4 .left, sym (same-told (c .before .before .before .before .before .before .before .before .before .before .before .before .before .before .before .before .before .before .before .before .before .before .before .before .before .args .word .now) (bytes "flush") _ (c .before .before .before .before .before .before .before .before .same5 .ensures)) ∙ c .before .before .before .before .before .before .before .if5 .left, sym (same-told (c .before .before .before .before .before .before .before .before .before .before .before .before .before .before .before .before .before .before .before .before .before .before .before .before .before .args .word .now) (bytes "remove") _ (c .before .before .before .before .before .same6 .ensures)) ∙ c .before .before .before .before .if6 .left, sym (same-told (c .before .before .before .before .before .before .before .before .before .before .before .before .before .before .before .before .before .before .before .before .before .before .before .before .before .args .word .now) (bytes "sheet") _ (c .before .before .same7 .ensures)) ∙ c .before .if7 .taken) (record { command = c .sheet-line .ensures; content = sym (ap (λ (l : List ℕ). written l (c .before .before .before .before .before .before .before .before .before .before .before .before .before .before .before .before .before .before .before .before .before .before .before .before .before .args .vector .now)) (sheet-none _ _)) })
+
+returns-8 : tie.Need-returns-8
+unfolding byWord bytes
+returns-8 c = rw (sym (same-told (c .before .before .before .before .before .before .before .before .before .before .before .before .before .before .before .before .before .before .before .before .before .before .before .before .args .word .now) (bytes "replicas") _ (c .before .before .before .before .before .before .before .before .before .before .before .before .before .before .before .before .before .before .before .same .ensures)) ∙ c .before .before .before .before .before .before .before .before .before .before .before .before .before .before .before .before .before .before .if1 .left, sym (same-told (c .before .before .before .before .before .before .before .before .before .before .before .before .before .before .before .before .before .before .before .before .before .before .before .before .args .word .now) (bytes "append") _ (c .before .before .before .before .before .before .before .before .before .before .before .before .before .before .before .before .same2 .ensures)) ∙ c .before .before .before .before .before .before .before .before .before .before .before .before .before .before .before .if2 .left, sym (same-told (c .before .before .before .before .before .before .before .before .before .before .before .before .before .before .before .before .before .before .before .before .before .before .before .before .args .word .now) (bytes "greatest") _ (c .before .before .before .before .before .before .before .before .before .before .before .before .before .same3 .ensures)) ∙ c .before .before .before .before .before .before .before .before .before .before .before .before .if3 .left, sym (same-told (c .before .before .before .before .before .before .before .before .before .before .before .before .before .before .before .before .before .before .before .before .before .before .before .before .args .word .now) (bytes "check") _ (c .before .before .before .before .before .before .before .before .before .before .same4 .ensures)) ∙ c .before .before .before .before .before .before .before .before .before .if4 .left, sym (same-told (c .before .before .before .before .before .before .before .before .before .before .before .before .before .before .before .before .before .before .before .before .before .before .before .before .args .word .now) (bytes "flush") _ (c .before .before .before .before .before .before .before .same5 .ensures)) ∙ c .before .before .before .before .before .before .if5 .left, sym (same-told (c .before .before .before .before .before .before .before .before .before .before .before .before .before .before .before .before .before .before .before .before .before .before .before .before .args .word .now) (bytes "remove") _ (c .before .before .before .before .same6 .ensures)) ∙ c .before .before .before .if6 .left, sym (same-told (c .before .before .before .before .before .before .before .before .before .before .before .before .before .before .before .before .before .before .before .before .before .before .before .before .args .word .now) (bytes "sheet") _ (c .before .same7 .ensures)) ∙ c .if7 .left) (record { command = refl; content = refl })
+
+pub by-word-spec : {M : Type 1} → statement M
+by-word-spec =
+    tie.close
+    (tie.spec
+    slice-aggregate-same
+    same-requires
+    replicas-line-requires
+    returns
+    slice-aggregate-same-2
+    same-requires-2
+    append-line-requires
+    same-length
+    returns-2
+    slice-aggregate-same-3
+    same-requires-3
+    greatest-line-requires
+    same-length-2
+    returns-3
+    slice-aggregate-same-4
+    same-requires-4
+    check-line-requires
+    same-length-3
+    returns-4
+    slice-aggregate-same-5
+    same-requires-5
+    flush-line-requires
+    same-length-4
+    returns-5
+    slice-aggregate-same-6
+    same-requires-6
+    remove-line-requires
+    returns-6
+    slice-aggregate-same-7
+    same-requires-7
+    sheet-line-requires
+    returns-7
+    returns-8)

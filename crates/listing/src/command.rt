@@ -1,0 +1,188 @@
+// A line of the listing program, read into one of its seven commands. Document 01, The listing program.
+ghost use mathlib.Core.Path.{_≡_};
+ghost use lib.ListN.{length};
+ghost use Rattle.listing.specs.Words.{beforeSpace};
+ghost use Rattle.listing.specs.Commands.{Tells, replicasLine, removeLine, sheetLine, vectorLine, appendLine, byWord, lineTold};
+use crate::fields::Named;
+use crate::fields::Vector;
+use crate::fields::read_vector;
+use crate::fields::size;
+use crate::fields::spaced_id;
+use crate::fields::spaced_number;
+use crate::number::Number;
+use crate::text::same;
+use clocks::id::EventId;
+use clocks::vector::Seq;
+
+// The most bytes before a newline.
+pub const LONGEST_LINE: usize = 512;
+
+// A vector stands in the buffer that is lent beside the line; its case says how many entries it has.
+pub enum Command {
+    // R.
+    Replicas(usize),
+    // The id, the Lamport number, the payload, and the version.
+    Append(EventId, u64, u64, usize),
+    // The bound.
+    Greatest(usize),
+    // The frontier.
+    Check(usize),
+    // The frontier.
+    Flush(usize),
+    Remove(EventId),
+    Sheet,
+}
+
+// A line, or bytes that are none.
+pub enum Read {
+    Line(Command),
+    NoLine,
+}
+
+// Where the line's first word ends: at the first space, or at the line's end.
+fn word_end(line: &[u8]) -> usize
+    ensures { λ r. ⌜ r ≡ beforeSpace (now (line .entry)) ⌝ }
+{
+    let mut i: usize = 0;
+    while i < line.len() {
+        if line[i] == b' ' {
+            return i;
+        }
+        i += 1;
+    }
+    i
+}
+
+// replicas R
+fn replicas_line(s: &[u8], at: usize) -> Read
+    ensures { λ r. ⌜ r ≡ replicasLine (now (s .entry)) at .0 ⌝ }
+{
+    let number = spaced_number(s, at);
+    let Number::Value(n, next) = number else {
+        return Read::NoLine;
+    };
+    if s.len() <= next {
+        return Read::Line(Command::Replicas(size(n)));
+    }
+    Read::NoLine
+}
+
+// remove O S D
+fn remove_line(s: &[u8], at: usize) -> Read
+    ensures { λ r. ⌜ r ≡ removeLine (now (s .entry)) at .0 ⌝ }
+{
+    let named = spaced_id(s, at);
+    let Named::Id(id, next) = named else {
+        return Read::NoLine;
+    };
+    if s.len() <= next {
+        return Read::Line(Command::Remove(id));
+    }
+    Read::NoLine
+}
+
+// sheet
+fn sheet_line(s: &[u8], at: usize) -> Read
+    ensures { λ r. ⌜ r ≡ sheetLine (now (s .entry)) at .0 ⌝ }
+{
+    if s.len() <= at {
+        return Read::Line(Command::Sheet);
+    }
+    Read::NoLine
+}
+
+// greatest v..
+fn greatest_line(s: &[u8], at: usize, vector: &mut [Seq]) -> Read
+    ensures { λ r. ⌜ Tells (vectorLine Command.Greatest (length (now (vector .entry))) (now (s .entry)) at) (now (vector .entry)) (now (vector .exit)) r ⌝ }
+{
+    let v = read_vector(s, at, vector);
+    let Vector::Entries(n) = v else {
+        return Read::NoLine;
+    };
+    Read::Line(Command::Greatest(n))
+}
+
+// check v..
+fn check_line(s: &[u8], at: usize, vector: &mut [Seq]) -> Read
+    ensures { λ r. ⌜ Tells (vectorLine Command.Check (length (now (vector .entry))) (now (s .entry)) at) (now (vector .entry)) (now (vector .exit)) r ⌝ }
+{
+    let v = read_vector(s, at, vector);
+    let Vector::Entries(n) = v else {
+        return Read::NoLine;
+    };
+    Read::Line(Command::Check(n))
+}
+
+// flush v..
+fn flush_line(s: &[u8], at: usize, vector: &mut [Seq]) -> Read
+    ensures { λ r. ⌜ Tells (vectorLine Command.Flush (length (now (vector .entry))) (now (s .entry)) at) (now (vector .entry)) (now (vector .exit)) r ⌝ }
+{
+    let v = read_vector(s, at, vector);
+    let Vector::Entries(n) = v else {
+        return Read::NoLine;
+    };
+    Read::Line(Command::Flush(n))
+}
+
+// append O S D L P v..
+fn append_line(s: &[u8], at: usize, vector: &mut [Seq]) -> Read
+    ensures { λ r. ⌜ Tells (appendLine (length (now (vector .entry))) (now (s .entry)) at) (now (vector .entry)) (now (vector .exit)) r ⌝ }
+{
+    let named = spaced_id(s, at);
+    let Named::Id(id, behind_id) = named else {
+        return Read::NoLine;
+    };
+    let lamport = spaced_number(s, behind_id);
+    let Number::Value(l, behind_lamport) = lamport else {
+        return Read::NoLine;
+    };
+    let payload = spaced_number(s, behind_lamport);
+    let Number::Value(p, behind_payload) = payload else {
+        return Read::NoLine;
+    };
+    let v = read_vector(s, behind_payload, vector);
+    let Vector::Entries(n) = v else {
+        return Read::NoLine;
+    };
+    Read::Line(Command::Append(id, l, p, n))
+}
+
+// By the line's first word.
+fn by_word(s: &[u8], word: &[u8], vector: &mut [Seq]) -> Read
+    ensures { λ r. ⌜ Tells (byWord (length (now (vector .entry))) (now (s .entry)) (now (word .entry))) (now (vector .entry)) (now (vector .exit)) r ⌝ }
+{
+    let at = word.len();
+    if same(word, b"replicas") {
+        return replicas_line(s, at);
+    }
+    if same(word, b"append") {
+        return append_line(s, at, vector);
+    }
+    if same(word, b"greatest") {
+        return greatest_line(s, at, vector);
+    }
+    if same(word, b"check") {
+        return check_line(s, at, vector);
+    }
+    if same(word, b"flush") {
+        return flush_line(s, at, vector);
+    }
+    if same(word, b"remove") {
+        return remove_line(s, at);
+    }
+    if same(word, b"sheet") {
+        return sheet_line(s, at);
+    }
+    Read::NoLine
+}
+
+// What a line says. Its vector's entries are written from the lent buffer's start; the rest keeps its values.
+pub fn read_line(line: &[u8], vector: &mut [Seq]) -> Read
+    ensures { λ r. ⌜ Tells (lineTold (length (now (vector .entry))) (now (line .entry))) (now (vector .entry)) (now (vector .exit)) r ⌝ }
+{
+    if LONGEST_LINE < line.len() {
+        return Read::NoLine;
+    }
+    let end = word_end(line);
+    by_word(line, &line[0..end], vector)
+}
