@@ -1,6 +1,11 @@
-//! What the oracle's programs share: the line reader, the answer writer, random numbers, and document 01 as plain code.
+//! What the oracle's programs share: the line reader, the answer writer, random numbers, document 01 as plain code, and how answers
+//! are held against each other and counted.
 
 pub mod answer;
+pub mod counts;
 pub mod lines;
 pub mod model;
 pub mod random;
+pub mod reach;
+pub mod text;
+pub mod verdict;

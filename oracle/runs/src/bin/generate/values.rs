@@ -1,22 +1,9 @@
 //! Numbers, vectors and ids: mostly of the right shape, some at an edge, some past it.
 
-use runs::{
-    lines::{Id, TOP},
-    random::Random,
-};
+pub use runs::text::{id_words, spaced};
+use runs::{lines::TOP, random::Random};
 
 pub const EDGES: [u64; 8] = [0, 1, 2, TOP - 1, TOP, TOP + 1, u64::MAX - 1, u64::MAX];
-
-pub fn spaced(numbers: &[u64]) -> String {
-    numbers.iter().map(u64::to_string).collect::<Vec<_>>().join(" ")
-}
-
-pub fn id_words(id: &Id) -> String {
-    match id.disambiguator {
-        Some(d) => format!("{} {} {}", id.replica, id.sequence, d),
-        None => format!("{} {} -", id.replica, id.sequence),
-    }
-}
 
 /// Small counts more often than large ones.
 pub fn replicas(random: &mut Random) -> u64 {

@@ -1,0 +1,212 @@
+//! A graph at its edges: each refusal where others apply too, siblings, checkpoints, and a full log.
+
+use runs::{
+    lines::TOP,
+    text::{mask_line, spaced},
+};
+
+use crate::{NUMBERS, at_each_room, vectors};
+
+const LOOK: [&str; 7] = [
+    "g.iter",
+    "g.named",
+    "g.roots",
+    "g.heads",
+    "g.cuts",
+    "g.len",
+    "g.is-empty",
+];
+
+fn look(lines: &mut Vec<String>) {
+    lines.extend(LOOK.map(str::to_string));
+}
+
+pub fn edges(lines: &mut Vec<String>) {
+    creations(lines);
+    refusals(lines);
+    siblings(lines);
+    for filler in [chain, braid] {
+        full(filler, lines);
+    }
+}
+
+fn creations(lines: &mut Vec<String>) {
+    for replicas in 1..=16 {
+        for v in vectors(replicas).iter().map(|v| spaced(v)) {
+            lines.push(format!("g.from {replicas} {v}"));
+            lines.extend(
+                ["greatest", "is-critical", "flush", "predecessors", "concurrent"].map(|word| format!("g.{word} {v}")),
+            );
+            look(lines);
+        }
+    }
+    lines.extend(NUMBERS.map(|count| format!("g.from {count} 1")));
+    // At the top nothing more can come of a desk.
+    for base in [TOP - 1, TOP] {
+        lines.push(format!("g.from 2 {base} 0"));
+        for sequence in [TOP - 1, TOP, TOP + 1] {
+            lines.push(format!(
+                "g.append 0 {sequence} - {} {} {sequence} 0",
+                u64::MAX,
+                u64::MAX
+            ));
+        }
+        lines.extend([
+            format!("g.greatest {TOP} {TOP}"),
+            format!("g.flush {TOP} 0"),
+            format!("g.append 1 1 - 0 0 {TOP} 1"),
+        ]);
+        look(lines);
+    }
+}
+
+/// Events that several refusals apply to, before and after each change of the log.
+fn refusals(lines: &mut Vec<String>) {
+    let mut appends = Vec::new();
+    for v in [
+        "0 0 0", "1 0 0", "1 1 0", "0 1 1", "1 1 1", "1 2 0", "2 1 1", "2 2 1", "2 1 2", "0 2 0", "3 3 3",
+    ] {
+        let entries: Vec<&str> = v.split(' ').collect();
+        for replica in [0, 1, 2, 3] {
+            let own = entries.get(replica).unwrap_or(&"1");
+            for sequence in [own, "0", "1", "4294967296"] {
+                appends.push(format!("g.append {replica} {sequence} - 9 9 {v}"));
+            }
+            appends.push(format!("g.append {replica} {own} - 9 9 {v} 0"));
+        }
+    }
+    let notes = [
+        "0 1 - 1 10 1 0 0",
+        "1 1 - 2 11 1 1 0",
+        "2 1 - 2 12 1 0 1",
+        "0 2 - 3 13 2 1 1",
+    ];
+    for (count, flush) in [
+        (0, ""),
+        (1, ""),
+        (3, ""),
+        (4, ""),
+        (4, "g.flush 1 0 0"),
+        (4, "g.flush 1 1 1"),
+        (4, "g.flush 2 1 1"),
+    ] {
+        for append in &appends {
+            lines.push("g.new 3".to_string());
+            lines.extend(notes[..count].iter().map(|note| format!("g.append {note}")));
+            lines.extend((!flush.is_empty()).then(|| flush.to_string()));
+            lines.extend([append.clone(), "g.cuts".to_string(), "g.named".to_string()]);
+        }
+    }
+    for o in NUMBERS {
+        for (a, b) in [
+            (0, 0),
+            (1, 0),
+            (0, 1),
+            (1, 2),
+            (2, 1),
+            (0, u64::MAX),
+            (u64::MAX, 0),
+            (TOP, TOP + 1),
+        ] {
+            lines.push(format!("g.replica-events {o} {a} {b}"));
+        }
+        for word in ["get", "parents", "order", "remove"] {
+            lines.extend(NUMBERS.map(|sequence| format!("g.{word} {o} {sequence} -")));
+        }
+    }
+    lines.push("g.clear".to_string());
+    look(lines);
+}
+
+/// A note and every two siblings in turn, right after each other and with a note between.
+fn siblings(lines: &mut Vec<String>) {
+    let all = ["-", "0", "1", "4294967294", "4294967295"];
+    for first in all {
+        for second in all {
+            for between in [
+                "",
+                "g.append 1 1 - 2 2 0 1",
+                "g.append 1 1 - 2 2 1 1",
+                "g.flush 1 0",
+                "g.remove 0 1 -",
+            ] {
+                lines.push("g.new 2".to_string());
+                lines.push(format!("g.append 0 1 {first} 1 1 1 0"));
+                lines.extend((!between.is_empty()).then(|| between.to_string()));
+                lines.push(format!("g.append 0 1 {second} 3 3 1 0"));
+                lines.extend(["g.cuts", "g.heads", "g.iter"].map(str::to_string));
+                lines.push(format!("g.parents 0 1 {second}"));
+            }
+        }
+    }
+}
+
+/// Note number i of one desk, each heard by the next.
+fn chain(i: u64) -> String {
+    format!(
+        "0 {} 4294967295 {m} {m} {s}",
+        TOP - 300 + i,
+        m = u64::MAX,
+        s = spaced(&[&[TOP - 300 + i][..], &[0; 15]].concat())
+    )
+}
+
+/// Note number i of sixteen desks that hear nothing.
+fn braid(i: u64) -> String {
+    let (desk, sequence) = (i % 16, i / 16 + 1);
+    let mut version = vec![0; 16];
+    version[desk as usize] = sequence;
+    format!("{desk} {sequence} - {i} {i} {}", spaced(&version))
+}
+
+fn full(filler: fn(u64) -> String, lines: &mut Vec<String>) {
+    lines.push("g.new 16".to_string());
+    lines.extend((0..255).map(|i| format!("g.append {}", filler(i))));
+    lines.extend([
+        "g.len".to_string(),
+        format!("g.append {}", filler(255)),
+        "g.len".to_string(),
+    ]);
+    // Full comes last: known, late and a bad event are told first.
+    lines.extend([filler(256), filler(255), filler(3)].map(|note| format!("g.append {note}")));
+    lines.extend(["g.append 16 1 - 1 1 1", "g.append 0 0 - 1 1 1", "g.append 0 1 - 1 1 1"].map(str::to_string));
+    let top = spaced(&[TOP; 16]);
+    let zeros = spaced(&[0; 16]);
+    for question in [
+        "g.iter".to_string(),
+        format!("g.predecessors {top}"),
+        format!("g.concurrent {zeros}"),
+    ] {
+        at_each_room(&question, 256, lines);
+    }
+    at_each_room("g.heads", 16, lines);
+    at_each_room("g.heads", 1, lines);
+    at_each_room("g.cuts", 256, lines);
+    at_each_room("g.cuts", 1, lines);
+    lines.extend([
+        format!("g.greatest {top}"),
+        format!("g.flush {top}"),
+        format!("g.flush {zeros}"),
+    ]);
+    for length in [0, 255, 257, 2043] {
+        lines.push(mask_line("g.retain", &vec![1; length]));
+    }
+    for byte in [2, 255, 256] {
+        lines.push(mask_line("g.retain", &[&[1; 255][..], &[byte]].concat()));
+    }
+    lines.push(mask_line("g.retain", &[1; 256]));
+    // Room freed serves again.
+    let every_third: Vec<u64> = (0..256).map(|i| u64::from(i % 3 > 0)).collect();
+    lines.push(mask_line("g.retain", &every_third));
+    lines.extend((256..270).map(|i| format!("g.append {}", filler(i))));
+    look(lines);
+    lines.extend(["g.clear", "g.clear"].map(str::to_string));
+    look(lines);
+    lines.push(format!("g.append {}", filler(0)));
+    // An event with all desks as its parents.
+    lines.push("g.new 16".to_string());
+    lines.extend((0..15).map(|i| format!("g.append {}", braid(i))));
+    lines.push(format!("g.append 15 1 - 1 1 {}", spaced(&[1; 16])));
+    at_each_room("g.parents 15 1 -", 15, lines);
+    at_each_room("g.replica-events 3 1 2", 1, lines);
+}

@@ -1,0 +1,58 @@
+//! What is asked of a graph that holds a short log.
+
+use runs::{
+    answer::Answer,
+    lines::Event,
+    model::Probe,
+    text::{event_words, id_words, spaced, up_to},
+};
+
+use crate::logs::{early, orders, tops};
+
+/// A graph that holds the log, in the lines and in the model.
+fn bring(replicas: usize, log: &[Event], lines: &mut Vec<String>) -> Probe {
+    let mut probe = Probe::default();
+    let made = std::iter::once(format!("g.new {replicas}"));
+    for line in made.chain(log.iter().map(|event| format!("g.append {}", event_words(event)))) {
+        probe.answer(line.as_bytes());
+        lines.push(line);
+    }
+    probe
+}
+
+fn look(log: &[Event], lines: &mut Vec<String>) {
+    lines.extend(["g.cuts", "g.heads"].map(str::to_string));
+    lines.extend(log.iter().map(|event| format!("g.parents {}", id_words(&event.id))));
+}
+
+pub fn ask(replicas: usize, log: &[Event], lines: &mut Vec<String>) {
+    let bounds = up_to(&tops(replicas, log));
+    let mut probe = bring(replicas, log, lines);
+    look(log, lines);
+    let mut critical = Vec::new();
+    for bound in &bounds {
+        let question = format!("g.is-critical {}", spaced(bound));
+        if probe.answer(question.as_bytes()) == Answer::YesNo(true) {
+            critical.push(bound);
+        }
+        lines.extend([format!("g.greatest {}", spaced(bound)), question]);
+    }
+    for (i, frontier) in critical.into_iter().enumerate() {
+        // The first flush is of the graph that stands.
+        if i > 0 {
+            bring(replicas, log, lines);
+        }
+        lines.push(format!("g.flush {}", spaced(frontier)));
+        look(log, lines);
+        lines.push("g.roots".to_string());
+        lines.push(format!("g.greatest {}", spaced(bounds.last().unwrap())));
+    }
+}
+
+/// The orders in which some note comes too early.
+pub fn bring_early(replicas: usize, set: &[Event], lines: &mut Vec<String>) {
+    for order in orders(set).into_iter().filter(|order| early(order)) {
+        bring(replicas, &order, lines);
+        lines.extend(["g.iter", "g.named", "g.cuts", "g.heads"].map(str::to_string));
+    }
+}

@@ -1,0 +1,54 @@
+//! From values to the text of a line, and files.
+
+use crate::lines::{Event, Id};
+
+pub fn spaced(numbers: &[u64]) -> String {
+    numbers.iter().map(u64::to_string).collect::<Vec<_>>().join(" ")
+}
+
+pub fn id_words(id: &Id) -> String {
+    match id.disambiguator {
+        Some(d) => format!("{} {} {}", id.replica, id.sequence, d),
+        None => format!("{} {} -", id.replica, id.sequence),
+    }
+}
+
+/// What follows the word of an append.
+pub fn event_words(event: &Event) -> String {
+    let Event {
+        id,
+        lamport,
+        payload,
+        version,
+    } = event;
+    format!("{} {lamport} {payload} {}", id_words(id), spaced(version))
+}
+
+/// A mask line; an empty mask is the bare word.
+pub fn mask_line(word: &str, mask: &[u64]) -> String {
+    if mask.is_empty() {
+        word.to_string()
+    } else {
+        format!("{word} {}", spaced(mask))
+    }
+}
+
+/// All vectors at or below the tops, entry by entry, the last entry moving first.
+pub fn up_to(tops: &[u64]) -> Vec<Vec<u64>> {
+    let mut all = vec![vec![]];
+    for &top in tops {
+        all = all
+            .into_iter()
+            .flat_map(|v| (0..=top).map(move |entry| [&v[..], &[entry]].concat()))
+            .collect();
+    }
+    all
+}
+
+/// The bytes of a file; without them the program ends.
+pub fn read(path: &str) -> Vec<u8> {
+    std::fs::read(path).unwrap_or_else(|error| {
+        eprintln!("{path}: {error}");
+        std::process::exit(2)
+    })
+}
