@@ -1,5 +1,7 @@
 -- No second answer fits the contract of a public function of `clocks`, one statement for each. `Post` is the function's `ensures` as the checker reads it,
 -- of the arguments, the answer and what the lent buffers hold at the end.
+use mathlib.Core.Path.{_≡_}
+use Prim.Native.Nat.{ℕ}
 use denote.Ref.{now}
 use Rattle.clocks.proofs.vector.seq_by_idx.Reads.{Post as seq-by-idx}
 use Rattle.clocks.proofs.vector.well_formed.Reads.{Post as well-formed}
@@ -55,6 +57,9 @@ use Rattle.clocks.proofs.version_vector.Version.join.Reads.{Post as version-joi
 use Rattle.clocks.proofs.version_vector.Version.meet.Reads.{Post as version-meet}
 use Rattle.clocks.proofs.version_vector.Version.eq.Reads.{Post as version-eq}
 use Rattle.clocks.proofs.version_vector.Version.dependencies.Reads.{Post as version-dependencies}
+use Rattle.clocks.proofs.in_place.set_lent.Reads.{Post as set-lent}
+use Rattle.clocks.specs.Frontiers.{SetInPlace}
+use Rattle.clocks.specs.declared.causal_frontier.CausalFrontier.{CausalFrontier}
 use Rattle.promises.proofs.OneAnswer.{one-answer, depends-once, Once, OnceWith₂}
 
 -- ---- vectors
@@ -234,3 +239,12 @@ version-eq-once κs a x y s t p q = one-answer p q
 
 pub version-dependencies-once : OnceWith₂ version-dependencies (λ κs s. now (s .1 .0)) (λ κs s. now (s .1 .1 .0))
 version-dependencies-once κs a x y s t p q = depends-once p q
+
+-- ---- in the caller's frontier
+
+pub set-lent-once : Once set-lent
+set-lent-once κs a x y s t p q = one-answer p q
+
+-- `set_by_idx` over a reference is proved by hand, and the checker reads no `Post` of it: of its contract, the number and the frontier after the call
+pub set-in-place-once : (f after after′ : CausalFrontier) (i value r r′ : ℕ) → SetInPlace f i value r after → SetInPlace f i value r′ after′ → (r ≡ r′) × (after ≡ after′)
+set-in-place-once f after after′ i value r r′ p q = (one-answer (p .refusal) (q .refusal), one-answer (p .frontier) (q .frontier))
