@@ -8,13 +8,14 @@ use native.Mathlib.Nat.{le-antisymm}
 use native.Mathlib.Decide.{ℕ-discrete}
 use native.Mathlib.Omega.{arith}
 use borrow.Author.Tests.{eq-eqb, ne-eqb}
+use Rattle.laws.specs.Counting.{firstBelow}
 use Rattle.laws.proofs.Orders.{le-or-lt, true-or-false}
+use Rattle.laws.proofs.Searching.{first-none, first-at}
 use Rattle.clocks.specs.Vectors.{entry, covers}
 use Rattle.clocks.proofs.Vectors.{covers-intro, covers-elim, covers-zero}
 use Rattle.history.specs.Traces.{prunedOf, lastOf, retainedOf, held, eventOf, holds, versionRow}
-use Rattle.history.specs.Neighbours.{firstBelow, firstCovering, nextOf}
+use Rattle.history.specs.Neighbours.{firstCovering, nextOf}
 use Rattle.history.proofs.Traces.{held-tells, held-is, holds-held, holds-in, event-past}
-use Rattle.history.proofs.Neighbours.{first-found, first-none}
 use Rattle.observation.specs.Reached.{Versions, Reached}
 use Rattle.observation.specs.Observation.{InPast, IsNext, TellsNext}
 use Rattle.clocks.specs.declared.id.EventId.{EventId}
@@ -50,7 +51,7 @@ next-zero h notes versions id q z e =
     first-zero : (p : ℕ → Bool) (n : ℕ) → p 0 ≡ true → firstBelow p n ≡ 0
     first-zero p n t = ⊎-elim
         (λ (l : n ≤ 0). let m : n ≡ 0 = omega arith in rw m (first-none p 0 (λ j l. absurd (omega arith))))
-        (λ (l : 0 < n). first-found p n 0 (λ j m. absurd (omega arith)) l t) (le-or-lt n 0)
+        (λ (l : 0 < n). first-at p n 0 l t (λ j m. absurd (omega arith))) (le-or-lt n 0)
 
 -- there is one answer
 pub next-once : (h : EventHistory) (W : Versions) (r s q t u : ℕ) → IsNext h W r s q t → IsNext h W r s q u → t ≡ u
@@ -68,7 +69,7 @@ first-from p n zero m e h =
     let f : (j : ℕ) → j < n → p j ≡ false = λ j l. h j (omega arith) in
     no-one f (first-none p n f)
 first-from p n (suc d) m e h = ⊎-elim
-    (λ (t : p m ≡ true). one m (omega arith) t h (first-found p n m h (omega arith) t))
+    (λ (t : p m ≡ true). one m (omega arith) t h (first-at p n m (omega arith) t h))
     (λ (f : p m ≡ false). first-from p n d (suc m) (omega arith) (λ j l. elim (ℕ-discrete j m) [ yes q ↦ rw q f | no q ↦ h j (omega arith) ]))
     (true-or-false (p m))
 
