@@ -6,10 +6,10 @@ use Rattle.desk.proofs.run.Statement.{statement}
 use Rattle.desk.proofs.run.Tie as tie
 
 abbrev Inv-loop : tie.InvT-loop
-Inv-loop input₀ line₀ out₀ p₀ turns₀ input line out p turns = (length input ≡ length input₀) × (length line ≡ length line₀) × (length out ≡ length out₀)
+Inv-loop input₀ line₀ out₀ log₀ held₀ turns₀ input line out log held turns = (length input ≡ length input₀) × (length line ≡ length line₀) × (length out ≡ length out₀)
 
 abbrev μ-loop : tie.MeasureT-loop
-μ-loop input₀ line₀ out₀ p₀ turns₀ input line out p turns = turns
+μ-loop input₀ line₀ out₀ log₀ held₀ turns₀ input line out log held turns = turns
 
 new-requires : tie.Need-new-requires Inv-loop μ-loop
 new-requires c κs = tt
@@ -20,8 +20,8 @@ fresh-requires c κs = tt
 loop-holds : tie.Need-loop-holds Inv-loop μ-loop
 loop-holds c = search needs
 
-turn-requires : tie.Need-turn-requires Inv-loop μ-loop
-turn-requires c κs = tt
+next-piece-requires : tie.Need-next-piece-requires Inv-loop μ-loop
+next-piece-requires c κs = tt
 
 same-length : tie.Need-same-length Inv-loop μ-loop
 same-length c = search needs
@@ -35,14 +35,17 @@ same-length-3 c = search needs
 returns : tie.Need-returns Inv-loop μ-loop
 returns c = search needs
 
-sub-turns : tie.Need-sub-turns Inv-loop μ-loop
-sub-turns c = search needs
+sub-answer-piece : tie.Need-sub-answer-piece Inv-loop μ-loop
+sub-answer-piece c = search needs
 
-loop-less : tie.Need-loop-less Inv-loop μ-loop
-loop-less c = search needs
+part-answer-piece-start : tie.Need-part-answer-piece-start Inv-loop μ-loop
+part-answer-piece-start c = search needs
 
-loop-again : tie.Need-loop-again Inv-loop μ-loop
-loop-again c = search needs
+part-answer-piece-end : tie.Need-part-answer-piece-end Inv-loop μ-loop
+part-answer-piece-end c = search needs
+
+answer-piece-requires : tie.Need-answer-piece-requires Inv-loop μ-loop
+answer-piece-requires c κs = tt
 
 same-length-4 : tie.Need-same-length-4 Inv-loop μ-loop
 same-length-4 c = search needs
@@ -56,6 +59,27 @@ same-length-6 c = search needs
 returns-2 : tie.Need-returns-2 Inv-loop μ-loop
 returns-2 c = search needs
 
+sub-turns : tie.Need-sub-turns Inv-loop μ-loop
+sub-turns c = search needs
+
+loop-less : tie.Need-loop-less Inv-loop μ-loop
+loop-less c = search needs
+
+loop-again : tie.Need-loop-again Inv-loop μ-loop
+loop-again c = search needs
+
+same-length-7 : tie.Need-same-length-7 Inv-loop μ-loop
+same-length-7 c = search needs
+
+same-length-8 : tie.Need-same-length-8 Inv-loop μ-loop
+same-length-8 c = search needs
+
+same-length-9 : tie.Need-same-length-9 Inv-loop μ-loop
+same-length-9 c = search needs
+
+returns-3 : tie.Need-returns-3 Inv-loop μ-loop
+returns-3 c = search needs
+
 pub run-spec : {M : Type 1} → statement M
 run-spec =
     tie.close
@@ -65,15 +89,23 @@ run-spec =
     new-requires
     fresh-requires
     loop-holds
-    turn-requires
+    next-piece-requires
     same-length
     same-length-2
     same-length-3
     returns
-    sub-turns
-    loop-less
-    loop-again
+    sub-answer-piece
+    part-answer-piece-start
+    part-answer-piece-end
+    answer-piece-requires
     same-length-4
     same-length-5
     same-length-6
-    returns-2)
+    returns-2
+    sub-turns
+    loop-less
+    loop-again
+    same-length-7
+    same-length-8
+    same-length-9
+    returns-3)
