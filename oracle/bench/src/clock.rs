@@ -16,7 +16,21 @@ pub fn per_round(rounds: usize, mut run: impl FnMut(usize)) -> f64 {
     let best = |run: &mut dyn FnMut(usize), n| (0..TRIES).map(|_| took(run, n)).fold(f64::INFINITY, f64::min);
     let few = best(&mut run, rounds);
     let many = best(&mut run, 3 * rounds);
-    (many - few) / (2 * rounds) as f64
+    ((many - few) / (2 * rounds) as f64).max(0.0)
+}
+
+/// One call of the original, which is told its turn.
+pub fn in_turn<T>(rounds: usize, call: impl Fn(usize) -> T) -> f64 {
+    per_round(rounds, |n| {
+        for k in 0..n {
+            black_box(call(k));
+        }
+    })
+}
+
+/// One call of the original about one of `held` notes in turn.
+pub fn asked<T>(rounds: usize, held: usize, call: impl Fn(usize) -> T) -> f64 {
+    in_turn(rounds, |k| call(k % held))
 }
 
 /// One copy of so many words, as a struct that is handed over by value.

@@ -7,14 +7,12 @@ use moirai_protocol::state::unstable_state::{
 };
 
 use crate::{
-    clock::{Row, copy_of, per_round},
+    clock::{Row, asked, copy_of, per_round},
     notes,
+    port::Port,
 };
 
 const HELD: usize = 256;
-
-// A slice goes over as its start and its length.
-type Slice = (*const usize, usize);
 
 unsafe extern "C" {
     fn port_graph_append(rows: *const usize, len: usize, n: usize, rounds: usize) -> usize;
@@ -48,11 +46,9 @@ pub fn measure() -> Vec<Row> {
         log
     };
     let log = build();
-    let mut out = vec![0usize; 512];
-    let (p, l): Slice = (rows.as_ptr(), rows.len());
     let middle = &rows[(HELD / 2 - 1) * notes::ROW..(HELD / 2) * notes::ROW];
-    let (mp, ml): Slice = (middle.as_ptr(), middle.len());
     let mask: Vec<u8> = (0..HELD).map(|i| (i % 2) as u8).collect();
+    let port = Port::new(rows.clone(), HELD);
 
     let events_alone = per_round(20, |n| {
         for _ in 0..n {
@@ -61,172 +57,44 @@ pub fn measure() -> Vec<Row> {
             }
         }
     });
-    let clone = per_round(200, |n| {
-        for _ in 0..n {
-            black_box(log.clone());
-        }
-    });
-    let asked = |rounds: usize, ask: &dyn Fn(usize)| {
-        per_round(rounds, |n| {
-            for k in 0..n {
-                ask(k % HELD);
-            }
-        })
-    };
+    let clone = asked(200, HELD, |_| log.clone());
     let changed = |rounds: usize, change: &dyn Fn(&mut EventGraph<u64>)| {
-        per_round(rounds, |n| {
-            for _ in 0..n {
-                let mut log = log.clone();
-                change(&mut log);
-                black_box(&log);
-            }
-        }) - clone
+        let each = |_| {
+            let mut log = log.clone();
+            change(&mut log);
+            log
+        };
+        asked(rounds, HELD, each) - clone
     };
-
+    let appends = |time: f64| time / HELD as f64;
     let copy = copy_of::<2344>();
-    let o = out.as_mut_ptr();
-    let ol = out.len();
-    let row = |call, ours, rust, goal, limit| Row { call, ours, rust, goal, limit };
+    let not_slower = |call, ours, rust| Row { call, ours, rust, goal: 1.0, limit: 0.0 };
+    let look_up = |call, ours, rust| Row { call, ours, rust, goal: 1.0, limit: 2.0 * copy };
+    let faster = |goal, call, ours, rust| Row { call, ours, rust, goal, limit: 0.0 };
+    let n = 4000;
     vec![
-        row(
-            "append",
-            per_round(40, |n| unsafe {
-                black_box(port_graph_append(p, l, HELD, n));
-            }) / HELD as f64,
-            (per_round(10, |n| {
-                for _ in 0..n {
-                    black_box(build());
-                }
-            }) - events_alone)
-                / HELD as f64,
-            3.0,
-            0.0,
-        ),
-        row(
-            "greatest",
-            per_round(4000, |n| unsafe {
-                black_box(port_graph_greatest(p, l, HELD, p, l, HELD, n));
-            }),
-            asked(4000, &|k| {
-                black_box(log.greatest_critical_frontier(&frontiers[k]));
-            }),
-            1.0,
-            0.0,
-        ),
-        row(
-            "is_critical",
-            per_round(4000, |n| unsafe {
-                black_box(port_graph_is_critical(p, l, HELD, p, l, HELD, n));
-            }),
-            asked(4000, &|k| {
-                black_box(log.is_critical(&frontiers[k]));
-            }),
-            1.0,
-            0.0,
-        ),
-        row(
-            "predecessors",
-            per_round(4000, |n| unsafe {
-                black_box(port_graph_predecessors(p, l, HELD, p, l, HELD, n, o, ol));
-            }),
-            asked(4000, &|k| {
-                black_box(log.predecessors(&versions[k]));
-            }),
-            1.0,
-            0.0,
-        ),
-        row(
-            "concurrent",
-            per_round(4000, |n| unsafe {
-                black_box(port_graph_concurrent(p, l, HELD, p, l, HELD, n, o, ol));
-            }),
-            asked(4000, &|k| {
-                black_box(log.concurrent(&versions[k]));
-            }),
-            1.0,
-            0.0,
-        ),
-        row(
-            "frontier",
-            per_round(4000, |n| unsafe {
-                black_box(port_graph_frontier(p, l, HELD, n, o, ol));
-            }),
-            asked(4000, &|_| {
-                black_box(log.frontier());
-            }),
-            1.0,
-            0.0,
-        ),
-        row(
-            "direct_predecessors",
-            per_round(4000, |n| unsafe {
-                black_box(port_graph_direct_predecessors(p, l, HELD, p, l, HELD, n, o, ol));
-            }),
-            asked(4000, &|k| {
-                black_box(log.direct_predecessors(&ids[k]));
-            }),
-            1.0,
-            0.0,
-        ),
-        row(
+        faster(3.0, "append", appends(port.alone(40, port_graph_append)), appends(asked(10, HELD, |_| build()) - events_alone)),
+        not_slower("greatest", port.asks_all(n, port_graph_greatest), asked(n, HELD, |k| log.greatest_critical_frontier(&frontiers[k]))),
+        not_slower("is_critical", port.asks_all(n, port_graph_is_critical), asked(n, HELD, |k| log.is_critical(&frontiers[k]))),
+        not_slower("predecessors", port.lists(n, port_graph_predecessors), asked(n, HELD, |k| log.predecessors(&versions[k]))),
+        not_slower("concurrent", port.lists(n, port_graph_concurrent), asked(n, HELD, |k| log.concurrent(&versions[k]))),
+        not_slower("frontier", port.lists_all(n, port_graph_frontier), asked(n, HELD, |_| log.frontier())),
+        not_slower("direct_predecessors", port.lists(n, port_graph_direct_predecessors), asked(n, HELD, |k| log.direct_predecessors(&ids[k]))),
+        faster(
+            50.0,
             "flush of half",
-            per_round(1000, |n| unsafe {
-                black_box(port_graph_flush(p, l, HELD, mp, ml, 1, n));
-            }),
+            port.asks(1000, port_graph_flush, middle, 1),
             changed(50, &|log| log.prune_predecessors(&frontiers[HELD / 2 - 1])),
-            50.0,
-            0.0,
         ),
-        row(
-            "remove from the middle",
-            per_round(1000, |n| unsafe {
-                black_box(port_graph_remove(p, l, HELD, mp, ml, 1, n));
-            }),
-            changed(10, &|log| log.remove(&ids[HELD / 2 - 1])),
+        faster(50.0, "remove from the middle", port.asks(1000, port_graph_remove, middle, 1), changed(10, &|log| log.remove(&ids[HELD / 2 - 1]))),
+        faster(
             50.0,
-            0.0,
-        ),
-        row(
             "retain every second",
-            per_round(1000, |n| unsafe {
-                black_box(port_graph_retain(p, l, HELD, mask.as_ptr(), mask.len(), n));
-            }),
+            port.masks(1000, port_graph_retain, &mask),
             changed(10, &|log| log.retain(|op| op.lamport().0 % 2 == 0)),
-            50.0,
-            0.0,
         ),
-        row(
-            "get",
-            per_round(4000, |n| unsafe {
-                black_box(port_graph_get(p, l, HELD, p, l, HELD, n));
-            }),
-            asked(4000, &|k| {
-                black_box(log.get(&ids[k]));
-            }),
-            1.0,
-            2.0 * copy,
-        ),
-        row(
-            "delivery_order",
-            per_round(4000, |n| unsafe {
-                black_box(port_graph_delivery_order(p, l, HELD, p, l, HELD, n));
-            }),
-            asked(4000, &|k| {
-                black_box(log.delivery_order(&ids[k]));
-            }),
-            1.0,
-            2.0 * copy,
-        ),
-        row(
-            "roots",
-            per_round(20_000, |n| unsafe {
-                black_box(port_graph_roots(p, l, HELD, n));
-            }),
-            asked(20_000, &|_| {
-                black_box(log.roots());
-            }),
-            1.0,
-            2.0 * copy,
-        ),
+        look_up("get", port.asks_all(n, port_graph_get), asked(n, HELD, |k| log.get(&ids[k]))),
+        look_up("delivery_order", port.asks_all(n, port_graph_delivery_order), asked(n, HELD, |k| log.delivery_order(&ids[k]))),
+        look_up("roots", port.alone(20_000, port_graph_roots), asked(20_000, HELD, |_| log.roots())),
     ]
 }

@@ -8,8 +8,9 @@ use moirai_protocol::{
 };
 
 use crate::{
-    clock::{Row, copy_of, per_round},
+    clock::{Row, asked, copy_of, in_turn, per_round},
     notes,
+    port::Port,
 };
 
 const HELD: usize = 512;
@@ -42,9 +43,7 @@ pub fn measure() -> Vec<Row> {
         log
     };
     let log = build();
-    let mut out = vec![0usize; 512];
-    let (p, l) = (rows.as_ptr(), rows.len());
-    let (o, ol) = (out.as_mut_ptr(), out.len());
+    let port = Port::new(rows, HELD);
     let copy = copy_of::<33>();
 
     let events_alone = per_round(20, |n| {
@@ -54,130 +53,26 @@ pub fn measure() -> Vec<Row> {
             }
         }
     });
-    let asked = |rounds: usize, ask: &dyn Fn(usize)| {
-        per_round(rounds, |n| {
-            for k in 0..n {
-                ask(k);
-            }
-        })
-    };
-    let row = |call, ours, rust, goal, limit| Row { call, ours, rust, goal, limit };
+    let appends = |time: f64| time / HELD as f64;
+    let not_slower = |call, ours, rust| Row { call, ours, rust, goal: 1.0, limit: 0.0 };
+    let look_up = |call, ours, rust| Row { call, ours, rust, goal: 1.0, limit: copy };
+    let desk = |turn: usize| ReplicaIdx(turn / 3 % 16);
     let many = 40_000;
     let some = 4_000;
     vec![
-        row(
-            "append",
-            per_round(40, |n| unsafe {
-                black_box(port_history_append(p, l, HELD, n));
-            }) / HELD as f64,
-            (per_round(20, |n| {
-                for _ in 0..n {
-                    black_box(build());
-                }
-            }) - events_alone)
-                / HELD as f64,
-            1.0,
-            0.0,
-        ),
-        row(
-            "get",
-            per_round(many, |n| unsafe {
-                black_box(port_history_get(p, l, HELD, p, l, HELD, n));
-            }),
-            asked(many, &|k| {
-                black_box(log.get(&ids[k % HELD]));
-            }),
-            1.0,
-            copy,
-        ),
-        row(
-            "version",
-            per_round(many, |n| unsafe {
-                black_box(port_history_version(p, l, HELD, p, l, HELD, n));
-            }),
-            asked(many, &|k| {
-                black_box(log.version(&ids[k % HELD]));
-            }),
-            1.0,
-            copy,
-        ),
-        row(
-            "previous",
-            per_round(many, |n| unsafe {
-                black_box(port_history_previous(p, l, HELD, p, l, HELD, n));
-            }),
-            asked(many, &|k| {
-                black_box(log.previous(&ids[k % HELD], ReplicaIdx(k / 3 % 16)));
-            }),
-            1.0,
-            copy,
-        ),
-        row(
-            "next",
-            per_round(many, |n| unsafe {
-                black_box(port_history_next(p, l, HELD, p, l, HELD, n));
-            }),
-            asked(many, &|k| {
-                black_box(log.next(&ids[k % HELD], ReplicaIdx(k / 3 % 16)));
-            }),
-            1.0,
-            copy,
-        ),
-        row(
-            "predecessors",
-            per_round(some, |n| unsafe {
-                black_box(port_history_predecessors(p, l, HELD, p, l, HELD, n, o, ol));
-            }),
-            asked(some, &|k| {
-                black_box(log.predecessors(&versions[k % HELD]));
-            }),
-            1.0,
-            0.0,
-        ),
-        row(
-            "concurrent",
-            per_round(some, |n| unsafe {
-                black_box(port_history_concurrent(p, l, HELD, p, l, HELD, n, o, ol));
-            }),
-            asked(some, &|k| {
-                black_box(log.concurrent(&versions[k % HELD]));
-            }),
-            1.0,
-            0.0,
-        ),
-        row(
-            "iter",
-            per_round(some, |n| unsafe {
-                black_box(port_history_iter(p, l, HELD, n, o, ol));
-            }),
-            asked(some, &|_| {
-                black_box(log.iter().collect::<Vec<_>>());
-            }),
-            1.0,
-            0.0,
-        ),
-        row(
+        not_slower("append", appends(port.alone(40, port_history_append)), appends(asked(20, HELD, |_| build()) - events_alone)),
+        look_up("get", port.asks_all(many, port_history_get), asked(many, HELD, |k| log.get(&ids[k]))),
+        look_up("version", port.asks_all(many, port_history_version), asked(many, HELD, |k| log.version(&ids[k]))),
+        look_up("previous", port.asks_all(many, port_history_previous), in_turn(many, |k| log.previous(&ids[k % HELD], desk(k)))),
+        look_up("next", port.asks_all(many, port_history_next), in_turn(many, |k| log.next(&ids[k % HELD], desk(k)))),
+        not_slower("predecessors", port.lists(some, port_history_predecessors), asked(some, HELD, |k| log.predecessors(&versions[k]))),
+        not_slower("concurrent", port.lists(some, port_history_concurrent), asked(some, HELD, |k| log.concurrent(&versions[k]))),
+        not_slower("iter", port.lists_all(some, port_history_iter), asked(some, HELD, |_| log.iter().collect::<Vec<_>>())),
+        not_slower(
             "replica_events",
-            per_round(some, |n| unsafe {
-                black_box(port_history_replica_events(p, l, HELD, p, l, HELD, n, o, ol));
-            }),
-            asked(some, &|k| {
-                let note = &history[k % HELD];
-                black_box(log.replica_events(ReplicaIdx(note.origin), (0..note.seq).into()).collect::<Vec<_>>());
-            }),
-            1.0,
-            0.0,
+            port.lists(some, port_history_replica_events),
+            asked(some, HELD, |k| log.replica_events(ReplicaIdx(history[k].origin), (0..history[k].seq).into()).collect::<Vec<_>>()),
         ),
-        row(
-            "newly_observed_by",
-            per_round(some, |n| unsafe {
-                black_box(port_history_newly(p, l, HELD, p, l, HELD, n, o, ol));
-            }),
-            asked(some, &|k| {
-                black_box(log.newly_observed_by(&ids[k % HELD]));
-            }),
-            1.0,
-            0.0,
-        ),
+        not_slower("newly_observed_by", port.lists(some, port_history_newly), asked(some, HELD, |k| log.newly_observed_by(&ids[k]))),
     ]
 }

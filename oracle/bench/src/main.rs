@@ -4,6 +4,7 @@ mod clock;
 mod graph;
 mod history;
 mod notes;
+mod port;
 
 fn main() {
     let mut all = true;

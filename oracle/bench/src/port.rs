@@ -1,0 +1,82 @@
+//! The port's side: each of its functions makes a log of the rows that it is lent and makes one call so many times.
+
+use std::{cell::RefCell, hint::black_box};
+
+use crate::clock::per_round;
+
+// A slice goes over as its start and its length.
+pub type Alone = unsafe extern "C" fn(rows: *const usize, len: usize, n: usize, rounds: usize) -> usize;
+pub type Asks = unsafe extern "C" fn(rows: *const usize, len: usize, n: usize, q: *const usize, ql: usize, m: usize, rounds: usize) -> usize;
+pub type Lists = unsafe extern "C" fn(
+    rows: *const usize,
+    len: usize,
+    n: usize,
+    q: *const usize,
+    ql: usize,
+    m: usize,
+    rounds: usize,
+    out: *mut usize,
+    ol: usize,
+) -> usize;
+pub type ListsAll = unsafe extern "C" fn(rows: *const usize, len: usize, n: usize, rounds: usize, out: *mut usize, ol: usize) -> usize;
+pub type Masks = unsafe extern "C" fn(rows: *const usize, len: usize, n: usize, mask: *const u8, ml: usize, rounds: usize) -> usize;
+
+pub struct Port {
+    rows: Vec<usize>,
+    held: usize,
+    out: RefCell<Vec<usize>>,
+}
+
+impl Port {
+    pub fn new(rows: Vec<usize>, held: usize) -> Self {
+        Port { rows, held, out: RefCell::new(vec![0; 512]) }
+    }
+
+    fn log(&self) -> (*const usize, usize, usize) {
+        (self.rows.as_ptr(), self.rows.len(), self.held)
+    }
+
+    /// The call alone, in each round.
+    pub fn alone(&self, rounds: usize, call: Alone) -> f64 {
+        let (rows, len, n) = self.log();
+        per_round(rounds, |k| unsafe {
+            black_box(call(rows, len, n, k));
+        })
+    }
+
+    /// The call about one of `m` notes in turn.
+    pub fn asks(&self, rounds: usize, call: Asks, queries: &[usize], m: usize) -> f64 {
+        let (rows, len, n) = self.log();
+        per_round(rounds, |k| unsafe {
+            black_box(call(rows, len, n, queries.as_ptr(), queries.len(), m, k));
+        })
+    }
+
+    /// The same about the notes of the log itself.
+    pub fn asks_all(&self, rounds: usize, call: Asks) -> f64 {
+        self.asks(rounds, call, &self.rows, self.held)
+    }
+
+    pub fn lists(&self, rounds: usize, call: Lists) -> f64 {
+        let (rows, len, n) = self.log();
+        let mut out = self.out.borrow_mut();
+        per_round(rounds, |k| unsafe {
+            black_box(call(rows, len, n, rows, len, n, k, out.as_mut_ptr(), out.len()));
+        })
+    }
+
+    pub fn lists_all(&self, rounds: usize, call: ListsAll) -> f64 {
+        let (rows, len, n) = self.log();
+        let mut out = self.out.borrow_mut();
+        per_round(rounds, |k| unsafe {
+            black_box(call(rows, len, n, k, out.as_mut_ptr(), out.len()));
+        })
+    }
+
+    pub fn masks(&self, rounds: usize, call: Masks, mask: &[u8]) -> f64 {
+        let (rows, len, n) = self.log();
+        per_round(rounds, |k| unsafe {
+            black_box(call(rows, len, n, mask.as_ptr(), mask.len(), k));
+        })
+    }
+}
