@@ -77,18 +77,3 @@ highest-law p q n h (At i) z =
     gone : (p q : Positions) (n : ℕ) → ((k : ℕ) → has q k ≡ (has p k && ltb k n)) → (m : ℕ) → m < n → has q m ≡ false → has p m ≡ false
     gone p q n h m o e = sym (and-true (has p m)) ∙ rw (lt-ltb m n o) at (sym (h m) ∙ e)
 highest-law p q n h Nothing z = λ k l. sym (and-true (has p k)) ∙ rw (lt-ltb k n l) at (sym (h k) ∙ ⊎-elim (λ (s : 256 ≤ k). has-out q k s) (λ (s : k < 256). z k s) (le-or-lt 256 k))
-
--- a loop that goes through the positions in order, and puts in those that F picks: out has what F picks below i
-module _ (F : ℕ → Bool) (out : Positions) (i : ℕ) (h : (k : ℕ) → has out k ≡ (ltb k i && F k)) where
-  pub fill-in : (out′ : Positions) → i < 256 → F i ≡ true → ((k : ℕ) → has out′ k ≡ (has out k || (eqb k i && ltb k 256)))
-      → (k : ℕ) → has out′ k ≡ (ltb k (suc i) && F k)
-  fill-in out′ l e w k = elim (ℕ-discrete k i) [
-    | yes q ↦ w k ∙ rw (q, e, eq-eqb i i refl, lt-ltb i 256 l, lt-ltb i (suc i) (omega arith)) (or-true (has out i))
-    | no q ↦ w k ∙ rw (h k, ne-eqb k i q, or-false) (ap (λ (x : Bool). x && F k) (ltb-iff k i k (suc i) (λ p. omega arith) (λ p. omega arith)))
-  ]
-
-  pub skip-on : F i ≡ false → (k : ℕ) → has out k ≡ (ltb k (suc i) && F k)
-  skip-on e k = elim (ℕ-discrete k i) [
-    | yes q ↦ h k ∙ rw (q, e) (and-false (ltb i i) ∙ sym (and-false (ltb i (suc i))))
-    | no q ↦ h k ∙ ap (λ (x : Bool). x && F k) (ltb-iff k i k (suc i) (λ p. omega arith) (λ p. omega arith))
-  ]
