@@ -1,5 +1,5 @@
 -- Frontiers: R entries in an array of sixteen, and what each call on them answers.
-use mathlib.Core.Bool.{Bool, true, false, _&&_, _||_, not}
+use mathlib.Core.Bool.{Bool, _&&_, _||_}
 use mathlib.Core.List.{List}
 use mathlib.Core.Path.{_≡_}
 use Prim.Native.Nat.{ℕ, max, min, _≤_}

@@ -1,5 +1,5 @@
 -- Document 01, Sizes: vectors, what one covers, and how two compare.
-use mathlib.Core.Bool.{Bool, true, false, _&&_, _||_}
+use mathlib.Core.Bool.{Bool, true, false, _&&_}
 use mathlib.Core.List.{List}
 use Prim.Native.Nat.{ℕ, _%_, _^_}
 use lib.Dec.{leb, eqb}

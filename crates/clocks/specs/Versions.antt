@@ -1,16 +1,15 @@
 -- Versions: the entries of a frontier with the replica that they belong to, and what each call on them answers.
-use mathlib.Core.Bool.{Bool, _&&_, _||_, not}
+use mathlib.Core.Bool.{Bool, _&&_, _||_}
 use mathlib.Core.List.{List}
 use mathlib.Core.Path.{_≡_}
 use Prim.Native.Nat.{ℕ, _+_, _-_}
 use lib.Dec.{leb, ltb, eqb}
-use lib.ListN.{length, set}
+use lib.ListN.{length}
 use Rattle.laws.specs.Counting.{pick, countBelow}
 use Rattle.laws.specs.Lists.{listBelow, written}
 use Rattle.clocks.specs.Refusals.{accepted, badOrigin, badSequence, badVector, noRoom}
 use Rattle.clocks.specs.Vectors.{top, desks, entry, covers}
 use Rattle.clocks.specs.Frontiers.{joined, newFrontier, setByIdx}
-use Rattle.clocks.specs.declared.causal_frontier.CausalFrontier.{CausalFrontier}
 use Rattle.clocks.specs.declared.causal_frontier.FrontierAnswer.{FrontierAnswer}
 use Rattle.clocks.specs.declared.id.EventId.{EventId}
 use Rattle.clocks.specs.declared.id.Disambiguator.the-variants.{Absent}

@@ -1,10 +1,9 @@
 // Carries over clock/causal_frontier.rs. A frontier holds R and an entry for each of sixteen desks; those at R and above stay 0.
 ghost use mathlib.Core.Path.{_≡_};
-ghost use Prim.Native.Nat.{max, min, _+_};
+ghost use Prim.Native.Nat.{max, min};
 ghost use lib.Dec.{eqb};
 ghost use lib.ListN.{set};
-ghost use Rattle.laws.specs.Counting.{pick};
-ghost use Rattle.clocks.specs.Vectors.{entry, covers, atMost, compared, total};
+ghost use Rattle.clocks.specs.Vectors.{entry, covers, compared, total};
 ghost use Rattle.clocks.specs.Frontiers.{newFrontier, fromEntries, setByIdx, joinEntries, meetEntries, joined, met, joinVersion, sameFrontier, isBadCount};
 use crate::id::EventId;
 use crate::refusal::ACCEPTED;

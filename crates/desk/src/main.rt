@@ -1,12 +1,12 @@
-// The listing program: reads lines on standard input to its end, and prints the answer of each. What a line says and what is answered
-// stands in `listing`; here the bytes come in and go out.
+// The listing program: reads lines on standard input to its end, and prints the answer of each. What a line says stands in `listing`,
+// what it does to the log and what is answered in `log`; here the bytes come in and go out.
 use listing::command::LONGEST_LINE;
-use listing::lines::Held;
-use listing::log::Answered;
-use listing::log::LONGEST_ANSWER;
-use listing::log::Log;
-use listing::log::answer_line;
-use listing::log::refuse_line;
+use log::Answered;
+use log::LONGEST_ANSWER;
+use log::Log;
+use log::answer_line;
+use log::refuse_line;
+use text::lines::Held;
 
 // What goes from one read to the next: the line so far, and the log.
 struct Progress {
@@ -57,7 +57,7 @@ fn answer_piece(log: Log, held: Held, piece: &[u8], line: &mut [u8], out: &mut [
     let mut at: usize = 0;
     let mut i: usize = 0;
     while i < piece.len() {
-        let taken = listing::lines::feed(line, held, piece, i);
+        let taken = text::lines::feed(line, held, piece, i);
         i = taken.next;
         held = taken.held;
         if taken.complete {
@@ -65,7 +65,7 @@ fn answer_piece(log: Log, held: Held, piece: &[u8], line: &mut [u8], out: &mut [
             let a = answer_held(log, held, line, out, at);
             log = a.log;
             at = a.at;
-            held = listing::lines::fresh();
+            held = text::lines::fresh();
         }
     }
     flush(out, at);
@@ -109,7 +109,7 @@ fn next_piece(held: Held, input: &mut [u8]) -> Piece {
 // A proved loop has to end, and nothing says that the input does: the turns are counted down from a number that no run uses up.
 fn run(input: &mut [u8], line: &mut [u8], out: &mut [u8]) {
     let mut log = Log::new();
-    let mut held = listing::lines::fresh();
+    let mut held = text::lines::fresh();
     let mut turns = u64::MAX;
     while 0 < turns {
         let next = next_piece(held, input);

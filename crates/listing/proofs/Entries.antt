@@ -9,7 +9,7 @@ use Rattle.laws.proofs.Lists.{written-more}
 use Rattle.laws.specs.Lists.{written}
 use Rattle.listing.specs.Commands.{spacedNumber, entries, entriesEnd, most, mostEntries}
 use Rattle.listing.specs.declared.fields.Run.{Run}
-use Rattle.listing.specs.declared.number.Number.the-variants.{Value, Bad}
+use Rattle.text.specs.declared.number.Number.the-variants.{Value, Bad}
 
 entries-more : (k : ℕ) (s : List ℕ) (at n next : ℕ) → 0 < k → spacedNumber s at ≡ Value n next
     → (entries k s at ≡ n ∷ entries (k - 1) s next) × (entriesEnd k s at ≡ entriesEnd (k - 1) s next)

@@ -1,15 +1,17 @@
 -- Pieces of text written one behind the other: two runs are one, and where there is room for all, their bytes stand in the buffer.
 use mathlib.Core.List.{List, [], _∷_, _++_, append-assoc, append-nil}
 use mathlib.Core.Path.{_≡_, refl, sym, ap, _∙_}
-use Prim.Native.Nat.{ℕ, _+_, _≤_, _<_}
+use Prim.Native.Nat.{ℕ, _+_, _*_, _≤_, _<_}
 use native.Mathlib.Nat.{add-zero}
 use native.Mathlib.Numerals.{add-one}
 use native.Mathlib.Omega.{arith}
 use lib.ListN.{length, take, drop, getD, length-append, length-drop, take-append-drop}
 use lib.Seq.{take-suc, take-at, drop-append-add, drop-drop, length-take-le}
+use Rattle.text.specs.Numbers.{spelled}
+use Rattle.text.specs.Bytes.{placed, placedEnd}
+use Rattle.text.proofs.Placing.{placed-in}
+use Rattle.text.proofs.Spelling.{digits-le}
 use Rattle.listing.specs.Laying.{laid, laidEnd, Laid, joined, spaced, piecesBelow}
-use Rattle.listing.specs.Text.{placed, placedEnd}
-use Rattle.listing.proofs.Placing.{placed-in}
 
 pub laid-none : (out : List ℕ) (at : ℕ) → Laid out at [] out at
 unfolding laid laidEnd
@@ -46,6 +48,12 @@ spaced-append (n ∷ ns) ms = rw (spaced-append ns ms)
 
 pub spaced-more : (ns : List ℕ) (i : ℕ) → i < length ns → spaced (take (i + 1) ns) ≡ spaced (take i ns) ++ spaced (getD ns i 0 ∷ [])
 spaced-more ns i h = rw (add-one i, take-suc ns i 0 h) (spaced-append (take i ns) (getD ns i 0 ∷ []))
+
+-- how many bytes numbers take
+pub size-spaced : (ns : List ℕ) → length (joined (spaced ns)) ≤ 21 * length ns
+unfolding joined spaced
+size-spaced [] = omega arith
+size-spaced (n ∷ ns) = omega (arith, length-append (spelled n) (joined (spaced ns)), digits-le n, size-spaced ns)
 
 pub pieces-more : (f : ℕ → List (List ℕ)) (n : ℕ) → piecesBelow f (n + 1) ≡ piecesBelow f n ++ f n
 unfolding piecesBelow

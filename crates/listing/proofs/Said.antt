@@ -10,16 +10,16 @@ use lib.ListN.{length, take, drop, getD, length-drop, take-append-drop}
 use lib.Seq.{getD-drop, drop-drop, drop-append-seam, length-take-le}
 use borrow.Author.Tests.{lt-ltb, ne-eqb}
 use Rattle.laws.specs.Counting.{pick}
+use Rattle.text.specs.Numbers.{isDigit, digitsIn, numberAt, placesUpTo, places, lastDigits, spelled}
+use Rattle.text.proofs.ReadBack.{digits-last, read-back}
 use Rattle.listing.specs.Commands.{spacedNumber, spacedTag, spacedId, entries, entriesEnd}
 use Rattle.listing.specs.Laying.{joined, spaced}
-use Rattle.listing.specs.Numbers.{isDigit, digitsIn, numberAt, placesUpTo, places, lastDigits, spelled}
 use Rattle.clocks.specs.declared.id.Disambiguator.{Disambiguator}
 use Rattle.clocks.specs.declared.id.Disambiguator.the-variants.{Absent, Number as number}
 use Rattle.clocks.specs.declared.id.EventId.{EventId}
 use Rattle.listing.specs.declared.fields.Named.the-variants.{Id}
 use Rattle.listing.specs.declared.fields.Tag.the-variants.{Given}
-use Rattle.listing.specs.declared.number.Number.the-variants.{Value, Bad}
-use Rattle.listing.proofs.ReadBack.{digits-last, read-back}
+use Rattle.text.specs.declared.number.Number.the-variants.{Value, Bad}
 use Rattle.listing.proofs.Wording.{byte-within}
 
 -- what is left at a place gives the byte there

@@ -5,17 +5,19 @@ use Prim.Native.Nat.{ℕ, _+_, _^_, _≤_, _<_}
 use native.Mathlib.Omega.{arith}
 use lib.ListN.{length, drop, length-append}
 use borrow.Author.Tests.{lt-ltb, le-ltb, le-leb}
+use Rattle.text.specs.Numbers.{digitsIn, spelled}
+use Rattle.text.specs.Bytes.{bytesBefore}
+use Rattle.text.proofs.Spelling.{digits-le}
 use Rattle.listing.specs.Commands.{replicasLine, removeLine, sheetLine, vectorLine, vectorAt, appendLine, byWord, lineTold}
 use Rattle.listing.specs.Laying.{joined, spaced}
-use Rattle.listing.specs.Numbers.{digitsIn, spelled}
-use Rattle.listing.specs.Words.{bytes, sameBytes, beforeSpace}
+use Rattle.listing.specs.Words.{bytes, sameBytes}
 use Rattle.clocks.specs.declared.id.Disambiguator.{Disambiguator}
 use Rattle.clocks.specs.declared.id.Disambiguator.the-variants.{Absent, Number as number}
 use Rattle.clocks.specs.declared.id.EventId.{EventId}
 use Rattle.listing.specs.declared.command.Command.{Command}
 use Rattle.listing.specs.declared.command.Command.the-variants.{Replicas, Append, Greatest, Check, Flush, Remove, Sheet}
 use Rattle.listing.specs.declared.command.Read.the-variants.{Line}
-use Rattle.listing.proofs.Room.{digits-le, size-spaced}
+use Rattle.listing.proofs.Laying.{size-spaced}
 use Rattle.listing.proofs.Said.{text, Small, tagText, idThen, SmallId, spaced-at, end-left, digits-text, entries-at, id-at}
 
 -- a vector that a line can give: 1 to 16 entries below 2^64
@@ -36,32 +38,32 @@ module _ (n : ℕ) (ns : List ℕ) (ok : Sayable (n ∷ ns)) where
   short word h = omega (arith, length-append word (text (n ∷ ns)), size-spaced (n ∷ ns), ok .room)
 
   pub read-greatest : lineTold 16 (bytes "greatest" ++ text (n ∷ ns)) ≡ (Line (Greatest (length (n ∷ ns))), n ∷ ns)
-  unfolding lineTold byWord beforeSpace sameBytes bytes joined spaced
+  unfolding lineTold byWord bytesBefore sameBytes bytes joined spaced
   read-greatest =
       rw (le-ltb 512 (length (bytes "greatest" ++ text (n ∷ ns))) (short (bytes "greatest") (omega arith)))
       (vector-told Greatest (bytes "greatest" ++ text (n ∷ ns)) 8 (n ∷ ns) ok refl)
 
   pub read-check : lineTold 16 (bytes "check" ++ text (n ∷ ns)) ≡ (Line (Check (length (n ∷ ns))), n ∷ ns)
-  unfolding lineTold byWord beforeSpace sameBytes bytes joined spaced
+  unfolding lineTold byWord bytesBefore sameBytes bytes joined spaced
   read-check =
       rw (le-ltb 512 (length (bytes "check" ++ text (n ∷ ns))) (short (bytes "check") (omega arith)))
       (vector-told Check (bytes "check" ++ text (n ∷ ns)) 5 (n ∷ ns) ok refl)
 
   pub read-flush : lineTold 16 (bytes "flush" ++ text (n ∷ ns)) ≡ (Line (Flush (length (n ∷ ns))), n ∷ ns)
-  unfolding lineTold byWord beforeSpace sameBytes bytes joined spaced
+  unfolding lineTold byWord bytesBefore sameBytes bytes joined spaced
   read-flush =
       rw (le-ltb 512 (length (bytes "flush" ++ text (n ∷ ns))) (short (bytes "flush") (omega arith)))
       (vector-told Flush (bytes "flush" ++ text (n ∷ ns)) 5 (n ∷ ns) ok refl)
 
 pub read-replicas : (r : ℕ) → r < 2 ^ 64 → lineTold 16 (bytes "replicas" ++ text (r ∷ [])) ≡ (Line (Replicas r), [])
-unfolding lineTold byWord beforeSpace sameBytes bytes joined spaced replicasLine digitsIn
+unfolding lineTold byWord bytesBefore sameBytes bytes joined spaced replicasLine digitsIn
 read-replicas r h =
     let s : List ℕ = bytes "replicas" ++ text (r ∷ []) in
     let told = spaced-at s [] 8 r refl h refl in
     rw (le-ltb 512 (length s) (omega (arith, length-append (bytes "replicas") (text (r ∷ [])), size-spaced (r ∷ []))), told .0, le-leb _ _ (end-left s _ (told .1)))
 
 pub read-sheet : lineTold 16 (bytes "sheet") ≡ (Line Sheet, [])
-unfolding lineTold byWord beforeSpace sameBytes bytes sheetLine
+unfolding lineTold byWord bytesBefore sameBytes bytes sheetLine
 read-sheet = refl
 
 -- how long the text of an id is
@@ -83,7 +85,7 @@ id-le id rest =
     )
 
 pub read-remove : (id : EventId) → SmallId id → lineTold 16 (bytes "remove" ++ idThen id []) ≡ (Line (Remove id), [])
-unfolding lineTold byWord beforeSpace sameBytes bytes removeLine digitsIn
+unfolding lineTold byWord bytesBefore sameBytes bytes removeLine digitsIn
 read-remove id small =
     let s : List ℕ = bytes "remove" ++ idThen id [] in
     let told = id-at s [] 6 id refl small refl in
@@ -91,7 +93,7 @@ read-remove id small =
 
 pub read-append : (id : EventId) (l p : ℕ) (v : List ℕ) → SmallId id → l < 2 ^ 64 → p < 2 ^ 64 → Sayable v
     → lineTold 16 (bytes "append" ++ idThen id (text (l ∷ p ∷ v))) ≡ (Line (Append id l p (length v)), v)
-unfolding lineTold byWord beforeSpace sameBytes bytes joined spaced appendLine digitsIn
+unfolding lineTold byWord bytesBefore sameBytes bytes joined spaced appendLine digitsIn
 read-append id l p v small hl hp ok =
     let rest : List ℕ = text (l ∷ p ∷ v) in
     let s : List ℕ = bytes "append" ++ idThen id rest in

@@ -1,53 +1,30 @@
--- Words of a line: where the first ends, and which of the fixed texts it is.
+-- Words of a line: which of the fixed texts the first is.
 use mathlib.Core.Bool.{Bool, true, false, false≢true}
 use mathlib.Core.List.{List, [], _∷_}
 use mathlib.Core.Logic.{⊎-elim}
 use mathlib.Core.Path.{_≡_, refl, sym, ap₂}
-use Prim.Native.Nat.{ℕ, suc, _≤_, _<_}
+use Prim.Native.Nat.{ℕ, _≤_, _<_}
 use native.Mathlib.Decide.{ℕ-discrete}
 use native.Mathlib.Omega.{arith}
-use lib.Dec.{eqb, leb}
-use lib.ListN.{length, drop, getD, drop-of-length-le, List·getD-eq-default}
-use lib.Seq.{drop-cons}
+use lib.Dec.{leb}
+use lib.ListN.{length, getD, List·getD-eq-default}
 use borrow.Author.Tests.{eq-eqb, ne-eqb}
 use Rattle.laws.proofs.Orders.{le-or-lt, true-or-false}
 use Rattle.laws.specs.Counting.{pick}
+use Rattle.text.specs.Bytes.{Same}
 use Rattle.listing.specs.Commands.{withNumber, withId, spacedNumber, spacedId, replicasLine, removeLine, sheetLine, nothing}
-use Rattle.listing.specs.Text.{Same}
-use Rattle.listing.specs.Words.{sameBytes, beforeSpace}
+use Rattle.listing.specs.Words.{sameBytes}
 use Rattle.listing.specs.declared.command.Command.the-variants.{Replicas, Remove, Sheet}
 use Rattle.listing.specs.declared.command.Read.{Read}
 use Rattle.listing.specs.declared.command.Read.the-variants.{Line}
 use Rattle.listing.specs.declared.fields.Named.{Named}
 use Rattle.listing.specs.declared.fields.Named.the-variants.{Id, NoId}
-use Rattle.listing.specs.declared.number.Number.{Number}
-use Rattle.listing.specs.declared.number.Number.the-variants.{Value, Bad}
+use Rattle.text.specs.declared.number.Number.{Number}
+use Rattle.text.specs.declared.number.Number.the-variants.{Value, Bad}
 
 -- a byte that is not 0 stands within the line
 pub byte-within : (s : List ℕ) (at b : ℕ) → getD s at 0 ≡ b → 0 < b → at < length s
 byte-within s at b e h = ⊎-elim (λ (l : length s ≤ at). absurd (omega (arith, e, List·getD-eq-default s 0 l))) (λ (l : at < length s). l) (le-or-lt (length s) at)
-
-pub space-here : (s : List ℕ) (i : ℕ) → i < length s → getD s i 0 ≡ 32 → beforeSpace (drop i s) ≡ 0
-unfolding beforeSpace
-space-here s i h e = rw (drop-cons s i 0, eq-eqb (getD s i 0) 32 e)
-
-pub space-later : (s : List ℕ) (i : ℕ) → i < length s → (getD s i 0 ≡ 32 → ⊥) → beforeSpace (drop i s) ≡ suc (beforeSpace (drop (suc i) s))
-unfolding beforeSpace
-space-later s i h e = rw (drop-cons s i 0, ne-eqb (getD s i 0) 32 e)
-
-pub space-none : (s : List ℕ) (i : ℕ) → length s ≤ i → beforeSpace (drop i s) ≡ 0
-unfolding beforeSpace
-space-none s i h = rw (drop-of-length-le s h)
-
--- a word ends within its line
-pub word-within : (s : List ℕ) → beforeSpace s ≤ length s
-unfolding beforeSpace
-word-within [] = omega arith
-word-within (b ∷ s) = half (eqb b 32) (word-within s)
-  where
-    half : (t : Bool) → beforeSpace s ≤ length s → pick t 0 (suc (beforeSpace s)) ≤ suc (length s)
-    half true h = omega arith
-    half false h = omega arith
 
 same-itself : (s : List ℕ) → sameBytes s s ≡ true
 unfolding sameBytes

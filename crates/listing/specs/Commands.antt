@@ -7,13 +7,13 @@ use lib.Dec.{ltb, leb, eqb}
 use lib.ListN.{length, getD, take}
 use Rattle.laws.specs.Counting.{pick}
 use Rattle.laws.specs.Lists.{written}
-use Rattle.listing.specs.Numbers.{numberAt}
+use Rattle.text.specs.Numbers.{numberAt}
 use Rattle.listing.specs.Words.{bytes, sameBytes, beforeSpace}
 use Rattle.clocks.specs.declared.id.Disambiguator.{Disambiguator}
 use Rattle.clocks.specs.declared.id.Disambiguator.the-variants.{Absent, Number as number}
 use Rattle.clocks.specs.declared.id.EventId.{EventId}
-use Rattle.listing.specs.declared.number.Number.{Number}
-use Rattle.listing.specs.declared.number.Number.the-variants.{Value, Bad}
+use Rattle.text.specs.declared.number.Number.{Number}
+use Rattle.text.specs.declared.number.Number.the-variants.{Value, Bad}
 use Rattle.listing.specs.declared.fields.Tag.{Tag}
 use Rattle.listing.specs.declared.fields.Tag.the-variants.{Given, NoTag}
 use Rattle.listing.specs.declared.fields.Named.{Named}

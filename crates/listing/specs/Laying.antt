@@ -2,8 +2,8 @@
 use mathlib.Core.List.{List, [], _∷_, _++_}
 use mathlib.Core.Path.{_≡_}
 use Prim.Native.Nat.{ℕ, zero, suc}
-use Rattle.listing.specs.Numbers.{spelled}
-use Rattle.listing.specs.Text.{placed, placedEnd}
+use Rattle.text.specs.Numbers.{spelled}
+use Rattle.text.specs.Bytes.{placed, placedEnd}
 
 -- the buffer with the pieces from a place on
 unfoldable pub laid : List ℕ → ℕ → List (List ℕ) → List ℕ

@@ -1,18 +1,17 @@
 // Answer lines, written into a lent buffer. Each function hands back the place behind what it wrote.
-ghost use mathlib.Core.Path.{_≡_};
 ghost use mathlib.Core.List.{[], _∷_, _++_};
 ghost use lib.ListN.{take};
-ghost use Rattle.listing.specs.Numbers.{spelled};
+ghost use Rattle.text.specs.Numbers.{spelled};
 ghost use Rattle.listing.specs.Laying.{Laid, spaced, newline, lineOf};
 ghost use Rattle.listing.specs.Answers.{numberLine, noneLine, greatestAnswer, checkAnswer, countAnswer};
-use crate::lines::least;
-use crate::number::write_number;
-use crate::text::put;
 use clocks::causal_frontier::CausalFrontier;
 use clocks::refusal::ACCEPTED;
 use clocks::vector::DESKS;
 use graph::FrontierFound;
 use graph::Told;
+use text::bytes::put;
+use text::lines::least;
+use text::number::write_number;
 
 fn decimal(out: &mut [u8], at: usize, n: usize) -> usize
     ensures { λ r. ⌜ Laid (now (out .entry)) at (spelled n ∷ []) (now (out .exit)) r ⌝ }

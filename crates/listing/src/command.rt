@@ -9,10 +9,10 @@ use crate::fields::read_vector;
 use crate::fields::size;
 use crate::fields::spaced_id;
 use crate::fields::spaced_number;
-use crate::number::Number;
-use crate::text::same;
 use clocks::id::EventId;
 use clocks::vector::Seq;
+use text::bytes::same;
+use text::number::Number;
 
 // The most bytes before a newline.
 pub const LONGEST_LINE: usize = 512;

@@ -3,14 +3,14 @@ ghost use mathlib.Core.Path.{_≡_};
 ghost use lib.ListN.{length};
 ghost use Rattle.laws.specs.Lists.{written};
 ghost use Rattle.listing.specs.Commands.{spacedNumber, spacedTag, spacedId, most, entries, entriesEnd, vectorAt, narrowed};
-use crate::lines::least;
-use crate::number::Number;
-use crate::number::read_number;
-use crate::text::byte_at;
 use clocks::id::Disambiguator;
 use clocks::id::EventId;
 use clocks::replica::ReplicaIdx;
 use clocks::vector::Seq;
+use text::bytes::byte_at;
+use text::lines::least;
+use text::number::Number;
+use text::number::read_number;
 
 // The most entries that a line may give a vector.
 const MOST_ENTRIES: usize = 16;

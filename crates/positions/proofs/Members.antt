@@ -1,20 +1,19 @@
 -- Laws of sets by their members, for callers: equal members make equal sets, and the turns of a loop that fills a set.
-use mathlib.Core.Bool.{and-true, and-false, or-false, or-true, false≢true, Bool, true, false, _&&_, _||_, not}
+use mathlib.Core.Bool.{and-true, false≢true, Bool, true, false, _&&_, _||_, not}
 use mathlib.Core.Logic.{⊎-elim}
 use mathlib.Core.List.{List, [], _∷_}
-use mathlib.Core.Path.{_≡_, refl, sym, ap, _∙_}
+use mathlib.Core.Path.{_≡_, refl, sym, _∙_}
 use Prim.Native.Nat.{ℕ, zero, suc, _+_, _*_, _^_, _<_, _≤_}
-use native.Mathlib.Decide.{ℕ-discrete}
 use native.Mathlib.Omega.{arith}
 use lib.ListN.{getD, length}
 use lib.Seq.{ext-getD}
-use lib.Dec.{ltb, eqb, lit<}
+use lib.Dec.{ltb, lit<}
 use lib.Bits.{bitOr}
-use borrow.Author.Tests.{lt-ltb, le-ltb, eq-eqb, ne-eqb}
+use borrow.Author.Tests.{lt-ltb, le-ltb}
 use mir.Val.{Fits}
 use mir.Syntax.{w64}
 use Rattle.laws.specs.Counting.{allBelow}
-use Rattle.laws.proofs.Orders.{le-or-lt, bool-iff, and-both, imp-or, or-imp, ltb-iff}
+use Rattle.laws.proofs.Orders.{le-or-lt, bool-iff, and-both, imp-or, or-imp}
 use Rattle.laws.proofs.Counting.{all-intro, all-elim}
 use Rattle.positions.specs.Members.{has, Words, Subset, IsHighest}
 use Rattle.positions.specs.declared.Positions.{Positions}

@@ -4,8 +4,8 @@ use clocks::causal_frontier::FrontierAnswer;
 use clocks::refusal::ACCEPTED;
 use clocks::replica::ReplicaIdx;
 use clocks::version_vector::VersionAnswer;
-use listing::number::write_number;
-use listing::text::put;
+use text::bytes::put;
+use text::number::write_number;
 
 pub fn decimal(out: &mut [u8], at: usize, n: usize) -> usize {
     write_number(out, at, n as u64)

@@ -10,7 +10,7 @@ use crate::version_calls;
 use clocks::causal_frontier::CausalFrontier;
 use clocks::refusal::ACCEPTED;
 use clocks::refusal::BAD_LINE;
-use listing::text::same;
+use text::bytes::same;
 
 pub fn answer(s: Session, word: &[u8], kinds: &[u8], values: &[usize], out: &mut [u8]) -> Session {
     if same(word, b"c.replicas") {

@@ -9,9 +9,9 @@ use graph::Found;
 use graph::FrontierFound;
 use graph::Order;
 use graph::Told;
-use listing::number::write_number;
-use listing::text::put;
 use positions::NodeIndex;
+use text::bytes::put;
+use text::number::write_number;
 
 // A whole line: 0 and what is absent.
 fn none(out: &mut [u8], at: usize) -> usize {

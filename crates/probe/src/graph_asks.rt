@@ -6,7 +6,7 @@ use crate::tables::id_at;
 use crate::tables::is_led;
 use clocks::refusal::BAD_LINE;
 use graph::EventGraph;
-use listing::text::same;
+use text::bytes::same;
 
 pub fn ask(
     g: EventGraph,

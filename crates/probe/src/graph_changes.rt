@@ -14,7 +14,7 @@ use clocks::refusal::BAD_LINE;
 use graph::EventGraph;
 use graph::GraphAnswer;
 use graph::Removed;
-use listing::text::same;
+use text::bytes::same;
 
 // The refusal number or 0, the count where the word tells one, and the log.
 pub struct Change {

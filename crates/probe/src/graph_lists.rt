@@ -14,8 +14,8 @@ use clocks::refusal::Listed;
 use clocks::replica::ReplicaIdx;
 use graph::EventGraph;
 use graph::Found;
-use listing::text::same;
 use positions::NodeIndex;
+use text::bytes::same;
 
 // What a word's entries are told as; 0 for a word that lists nothing.
 pub const NO_LIST: usize = 0;

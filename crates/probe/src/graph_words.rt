@@ -8,7 +8,7 @@ use crate::session::Session;
 use crate::state::Log;
 use crate::state::State;
 use clocks::refusal::BAD_LINE;
-use listing::text::byte_at;
+use text::bytes::byte_at;
 
 pub fn is_graph_word(word: &[u8]) -> bool {
     if byte_at(word, 0) == b'g' {

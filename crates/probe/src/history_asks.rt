@@ -10,7 +10,7 @@ use clocks::refusal::BAD_LINE;
 use clocks::replica::ReplicaIdx;
 use clocks::vector::Seq;
 use history::event_history::EventHistory;
-use listing::text::same;
+use text::bytes::same;
 
 pub fn ask<'a>(
     h: EventHistory,

@@ -16,7 +16,7 @@ use history::event_history::EventHistory;
 use history::event_history::HistoryAnswer;
 use history::event_history::PruneAnswer;
 use history::event_history::Removed;
-use listing::text::same;
+use text::bytes::same;
 
 // The refusal number or 0, the count where the word tells one, and the history.
 pub struct Turned {

@@ -15,7 +15,7 @@ use clocks::replica::ReplicaIdx;
 use clocks::vector::Seq;
 use history::event_history::EventHistory;
 use history::event_history::Found;
-use listing::text::same;
+use text::bytes::same;
 
 pub fn is_list(word: &[u8]) -> bool {
     if same(word, b"h.predecessors") {

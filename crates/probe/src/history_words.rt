@@ -12,7 +12,7 @@ use crate::traces::notes_digest;
 use clocks::refusal::ACCEPTED;
 use clocks::refusal::BAD_LINE;
 use clocks::vector::Seq;
-use listing::text::byte_at;
+use text::bytes::byte_at;
 
 pub fn is_history_word(word: &[u8]) -> bool {
     if byte_at(word, 0) == b'h' {

@@ -27,8 +27,8 @@ mod traces;
 mod version_calls;
 
 use clocks::vector::Seq;
-use listing::lines::Held;
 use state::State;
+use text::lines::Held;
 
 // An answer has room: a list of 512 events takes 67 bytes each at most.
 const LONGEST_ANSWER: usize = 40_960;
@@ -103,11 +103,11 @@ fn next_part(
 ) -> Place
     ensures { λ r. ⌜ (q .at < length (now (piece .entry)) → q .at < r .at) ⌝ }
 {
-    let taken = listing::lines::feed(line, q.held, piece, q.at);
+    let taken = text::lines::feed(line, q.held, piece, q.at);
     let held = taken.held;
     if taken.complete {
         let state = answer_line(q.state, held, line, out, versions, notes, boundaries);
-        let none = listing::lines::fresh();
+        let none = text::lines::fresh();
         return Place {
             held: none,
             state,
@@ -222,7 +222,7 @@ fn last_line(
 }
 
 fn ended(st: State, out: &[u8]) -> Progress {
-    let held = listing::lines::fresh();
+    let held = text::lines::fresh();
     let state = flush(st, out);
     Progress {
         held,
@@ -241,7 +241,7 @@ fn run(
     boundaries: &mut [Seq; 256],
 ) {
     let mut p = Progress {
-        held: listing::lines::fresh(),
+        held: text::lines::fresh(),
         state: State::new(),
         ended: false,
     };

@@ -1,6 +1,6 @@
 // A keep mask: decimals below 256, each after one space, straight into bytes.
-use listing::number::Number;
-use listing::number::read_number;
+use text::number::Number;
+use text::number::read_number;
 
 // The most entries that are read: no line has so many.
 pub const MOST_MASK: usize = 2048;

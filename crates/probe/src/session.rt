@@ -12,7 +12,7 @@ use crate::tokens::parse;
 use crate::tokens::word_end;
 use clocks::refusal::BAD_LINE;
 use clocks::vector::Seq;
-use listing::text::same;
+use text::bytes::same;
 
 // No word has more tokens behind it: two vectors, a number before each, and the bar. A keep mask is read in another way.
 const MOST_TOKENS: usize = 64;

@@ -12,7 +12,7 @@ use clocks::id::EventId;
 use clocks::refusal::ACCEPTED;
 use clocks::refusal::BAD_LINE;
 use clocks::replica::ReplicaIdx;
-use listing::text::byte_at;
+use text::bytes::byte_at;
 
 // The most entries that a line may give a vector.
 const MOST_ENTRIES: usize = 16;

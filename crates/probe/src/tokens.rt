@@ -1,8 +1,8 @@
 // A line as a word and the tokens behind it, each after one space: decimals, `-` and `|`. The table is lent: a kind and a value for each.
 ghost use Prim.Native.Nat.{_≤_};
 ghost use lib.ListN.{length};
-use listing::number::Number;
-use listing::number::read_number;
+use text::number::Number;
+use text::number::read_number;
 
 // A decimal, which has its value; a dash for an absent number; a bar between two vectors.
 pub const NUMBER: u8 = 1;

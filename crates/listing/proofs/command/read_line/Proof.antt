@@ -5,7 +5,7 @@ use native.Mathlib.Omega.{arith}
 use borrow.Author.Tests.{lt-ltb, le-ltb}
 use borrow.Author.Needs.{needs}
 use Rattle.listing.specs.Commands.{lineTold}
-use Rattle.listing.proofs.Wording.{word-within}
+use Rattle.text.proofs.Before.{before-le}
 use Rattle.listing.proofs.command.read_line.Statement.{statement}
 use Rattle.listing.proofs.command.read_line.Tie as tie
 
@@ -23,7 +23,7 @@ part-by-word-start : tie.Need-part-by-word-start
 part-by-word-start c = search needs
 
 part-by-word-end : tie.Need-part-by-word-end
-part-by-word-end c = omega (arith, c .word-end .ensures, word-within (c .before .before .before .before .args .line .now))
+part-by-word-end c = omega (arith, c .word-end .ensures, before-le 32 (c .before .before .before .before .args .line .now))
 
 by-word-requires : tie.Need-by-word-requires
 by-word-requires c κs = search needs

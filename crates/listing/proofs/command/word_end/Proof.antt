@@ -6,7 +6,7 @@ use native.Mathlib.Omega.{arith}
 use lib.ListN.{length, drop}
 use borrow.Author.Needs.{needs}
 use Rattle.listing.specs.Words.{beforeSpace}
-use Rattle.listing.proofs.Wording.{space-here, space-later, space-none}
+use Rattle.text.proofs.Before.{before-here, before-later, before-none}
 use Rattle.listing.proofs.command.word_end.Statement.{statement}
 use Rattle.listing.proofs.command.word_end.Tie as tie
 
@@ -23,7 +23,7 @@ shared-slice-read-if1 : tie.Need-shared-slice-read-if1 Inv-loop μ-loop
 shared-slice-read-if1 c = search needs
 
 returns : tie.Need-returns Inv-loop μ-loop
-returns c = let l = c .before .before .before .loop in omega (arith, l .inv, space-here (c .before .before .before .before .args .line .now) (l .i) (c .before .before .loop-test .taken) (c .if1 .taken))
+returns c = let l = c .before .before .before .loop in omega (arith, l .inv, before-here 32 (c .before .before .before .before .args .line .now) (l .i) (c .before .before .loop-test .taken) (c .if1 .taken))
 
 add-i : tie.Need-add-i Inv-loop μ-loop
 add-i c = search needs
@@ -32,10 +32,10 @@ loop-less : tie.Need-loop-less Inv-loop μ-loop
 loop-less c = search needs
 
 loop-again : tie.Need-loop-again Inv-loop μ-loop
-loop-again c = let l = c .before .before .before .loop in rw add-one (omega (arith, l .inv, space-later (c .before .before .before .before .args .line .now) (l .i) (c .before .before .loop-test .taken) (c .if1 .left)))
+loop-again c = let l = c .before .before .before .loop in rw add-one (omega (arith, l .inv, before-later 32 (c .before .before .before .before .args .line .now) (l .i) (c .before .before .loop-test .taken) (c .if1 .left)))
 
 returns-2 : tie.Need-returns-2 Inv-loop μ-loop
-returns-2 c = let l = c .before .loop in omega (arith, l .inv, space-none (c .before .before .args .line .now) (l .i) (c .loop-test .left))
+returns-2 c = let l = c .before .loop in omega (arith, l .inv, before-none 32 (c .before .before .args .line .now) (l .i) (c .loop-test .left))
 
 pub word-end-spec : {M : Type 1} → statement M
 word-end-spec =
