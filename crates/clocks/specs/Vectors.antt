@@ -1,8 +1,8 @@
 -- Document 01, Sizes: vectors, what one covers, and how two compare.
-use mathlib.Core.Bool.{Bool, true, false, _&&_}
+use mathlib.Core.Bool.{Bool, true, false, _&&_, _||_}
 use mathlib.Core.List.{List}
 use Prim.Native.Nat.{ℕ, _%_, _^_}
-use lib.Dec.{leb, eqb}
+use lib.Dec.{leb, ltb, eqb}
 use lib.ListN.{getD, length}
 use Rattle.laws.specs.Counting.{allBelow, sumBelow}
 use Rattle.clocks.specs.declared.id.EventId.{EventId}
@@ -12,6 +12,10 @@ use Rattle.clocks.specs.declared.vector.Comparison.the-variants.{Equal, 
 -- sequences and entries go to this number
 abbrev pub top : ℕ
 top = 4294967295
+
+-- BadSequence: outside 1 .. the top
+abbrev pub isBadSequence : ℕ → Bool
+isBadSequence s = eqb s 0 || ltb top s
 
 -- R is at most this number
 abbrev pub desks : ℕ

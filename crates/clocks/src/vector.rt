@@ -1,7 +1,7 @@
 // Vectors as they are lent: slices of any length and any values. Carries over `VersionEntries` of clock/version_vector.rs and
 // `partial_cmp` of clock/causal_frontier.rs. A missing entry is 0.
 ghost use mathlib.Core.Path.{_≡_};
-ghost use Rattle.clocks.specs.Vectors.{entry, wellFormed, wellFormedFor, atMost, compared, total};
+ghost use Rattle.clocks.specs.Vectors.{isBadSequence, entry, wellFormed, wellFormedFor, atMost, compared, total};
 use crate::id::EventId;
 use crate::replica::ReplicaIdx;
 
@@ -20,6 +20,13 @@ pub enum Comparison {
     Above,
     Below,
     Beside,
+}
+
+// Outside 1 .. the top.
+pub fn is_bad_sequence(seq: Seq) -> bool
+    ensures { λ r. ⌜ r ≡ isBadSequence seq ⌝ }
+{
+    if seq == 0 { true } else { TOP < seq }
 }
 
 pub fn seq_by_idx(v: &[Seq], idx: ReplicaIdx) -> Seq

@@ -2,7 +2,7 @@
 use mathlib.Core.Bool.{Bool, true, false, _&&_, _||_, not, false≢true}
 use mathlib.Core.Logic.{_⊎_, inl, inr, ⊎-elim}
 use mathlib.Core.Path.{_≡_, refl, sym, _∙_}
-use Prim.Native.Nat.{ℕ, _<_, _≤_}
+use Prim.Native.Nat.{ℕ, _-_, _<_, _≤_, max}
 use native.Mathlib.Nat.{lt-of-not-le}
 use native.Mathlib.Decide.{decLe, ℕ-discrete}
 use native.Mathlib.Omega.{arith}
@@ -64,3 +64,10 @@ of-imp false y h = refl
 
 pub eqb-swap : (x y : ℕ) → eqb x y ≡ eqb y x
 eqb-swap x y = elim (ℕ-discrete x y) [ yes z ↦ rw (eq-eqb x y z, eq-eqb y x (sym z)) | no z ↦ rw (ne-eqb x y z, ne-eqb y x (λ w. z (sym w))) ]
+
+pub max-lt : (a b c : ℕ) → a < c → b < c → max a b < c
+max-lt a b c p q = omega arith
+
+-- at most, and not the same
+pub le-but : (a b : ℕ) → a ≤ b → (a ≡ b → ⊥) → a ≤ b - 1
+le-but a b l z = elim (ℕ-discrete a b) [ yes q ↦ absurd (z q) | no q ↦ omega arith ]

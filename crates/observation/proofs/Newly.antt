@@ -10,7 +10,7 @@ use native.Mathlib.Decide.{ℕ-discrete}
 use native.Mathlib.Omega.{arith}
 use lib.Dec.{ltb}
 use borrow.Author.Tests.{eq-eqb, ne-eqb}
-use Rattle.laws.proofs.Orders.{le-or-lt}
+use Rattle.laws.proofs.Orders.{le-or-lt, max-lt, le-but}
 use Rattle.clocks.specs.Vectors.{entry}
 use Rattle.history.specs.Traces.{replicas, prunedOf, lastOf, held, holds, isBoundary, versionWithBoundary}
 use Rattle.history.specs.Lists.{strictPast, pastOf, seenBefore, newlyRows}
@@ -112,7 +112,7 @@ module _ {h : EventHistory} {versions notes boundaries : List ℕ} {W : Versions
   own-between : (t : ℕ) → NewlyObserves W r s r t → (seen r < t) × (t ≤ past r)
   own-between t n =
       let p = n .past in
-      let b : t ≤ s - 1 = under t (p .seen) (p .other refl) in
+      let b : t ≤ s - 1 = le-but t s (omega (arith, p .seen, own-entry w r s low high)) (p .other refl) in
       let c : 2 ≤ s = omega (arith, p .some) in (
         ⊎-elim
             (λ (m : t ≤ seen r).
@@ -121,9 +121,6 @@ module _ {h : EventHistory} {versions notes boundaries : List ℕ} {W : Versions
             (λ (m : seen r < t). m) (le-or-lt t (seen r)),
         omega (arith, past-self),
       )
-    where
-      under : (t : ℕ) → t ≤ entry (W r s) r → (t ≡ s → ⊥) → t ≤ s - 1
-      under t a z = elim (ℕ-discrete t s) [ yes q ↦ absurd (z q) | no q ↦ omega (arith, own-entry w r s low high) ]
 
   other-between : (q t : ℕ) → (q ≡ r → ⊥) → NewlyObserves W r s q t → (seen q < t) × (t ≤ past q)
   other-between q t z n =
@@ -185,9 +182,6 @@ module _ {h : EventHistory} {versions notes boundaries : List ℕ} {W : Versions
       let b = between q u (n .newly) in
       rw (newly-held h notes versions boundaries id e)
       (Memᴰ·cast (n .row) (spans-member from to (replicas h) q u (t .0) (max-lt (prunedOf h q) (seen q) u (t .1) (b .0)) (le-min (t .2) (b .1))))
-    where
-      max-lt : (a b c : ℕ) → a < c → b < c → max a b < c
-      max-lt a b c p q = omega arith
 
   pub newly-exact : (x : ℕ) → List·Memᴰ x (newlyRows h notes versions boundaries id) ↔ NewRow h W (id .idx .0) (id .seq) x
   newly-exact x = (newly-tells x, newly-lists x)

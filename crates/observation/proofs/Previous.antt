@@ -8,7 +8,7 @@ use native.Mathlib.Nat.{le-antisymm}
 use native.Mathlib.Decide.{ℕ-discrete}
 use native.Mathlib.Omega.{arith}
 use borrow.Author.Tests.{eq-eqb, ne-eqb}
-use Rattle.laws.proofs.Orders.{le-or-lt}
+use Rattle.laws.proofs.Orders.{le-or-lt, le-but}
 use Rattle.clocks.specs.Vectors.{entry}
 use Rattle.history.specs.Traces.{lastOf, eventOf, holds, versionRow}
 use Rattle.history.specs.Neighbours.{previousOf}
@@ -55,11 +55,8 @@ past-other W r s q z = record { past = λ l. record { some = l; seen = omega ari
 past-own : (W : Versions) (r s : ℕ) → 1 ≤ s → entry (W r s) r ≡ s → IsPrevious W r s r (s - 1)
 past-own W r s l e = record {
   past = λ m. record { some = m; seen = omega (arith, e); other = λ f g. omega arith };
-  last = λ u p. lower u (p .seen) (p .other refl);
+  last = λ u p. le-but u s (omega (arith, p .seen, e)) (p .other refl);
 }
-  where
-    lower : (u : ℕ) → u ≤ entry (W r s) r → (u ≡ s → ⊥) → u ≤ s - 1
-    lower u a z = elim (ℕ-discrete u s) [ yes q ↦ absurd (z q) | no q ↦ omega (arith, e) ]
 
 module _ {h : EventHistory} {versions notes boundaries : List ℕ} {W : Versions} {accepted gone : ℕ} (w : Reached h versions notes boundaries W accepted gone) (id : EventId) where
   -- of an event that is held the answer is the last event of q in its past, if that one is retained

@@ -4,6 +4,7 @@ use mathlib.Core.Path.{_≡_}
 use Prim.Native.Nat.{ℕ}
 use denote.Ref.{now}
 use Rattle.clocks.proofs.vector.seq_by_idx.Reads.{Post as seq-by-idx}
+use Rattle.clocks.proofs.vector.is_bad_sequence.Reads.{Post as is-bad-sequence}
 use Rattle.clocks.proofs.vector.well_formed.Reads.{Post as well-formed}
 use Rattle.clocks.proofs.vector.well_formed_for.Reads.{Post as well-formed-for}
 use Rattle.clocks.proofs.vector.at_most.Reads.{Post as at-most}
@@ -66,6 +67,9 @@ use Rattle.promises.proofs.OneAnswer.{one-answer, depends-once, Once, O
 
 pub seq-by-idx-once : Once seq-by-idx
 seq-by-idx-once κs a x y s t p q = one-answer p q
+
+pub is-bad-sequence-once : Once is-bad-sequence
+is-bad-sequence-once κs a x y s t p q = one-answer p q
 
 pub well-formed-once : Once well-formed
 well-formed-once κs a x y s t p q = one-answer p q
