@@ -11,7 +11,6 @@ use Rattle.graph.proofs.EventGraph.is_empty.Reads.{Post as is-empty}
 use Rattle.graph.proofs.EventGraph.roots.Reads.{Post as roots}
 use Rattle.graph.proofs.EventGraph.named.Reads.{Post as named}
 use Rattle.graph.proofs.EventGraph.greatest_critical_frontier.Reads.{Post as greatest-critical-frontier}
-use Rattle.graph.proofs.EventGraph.is_critical_at.Reads.{Post as is-critical-at}
 use Rattle.graph.proofs.EventGraph.is_critical.Reads.{Post as is-critical}
 use Rattle.graph.proofs.EventGraph.predecessors.Reads.{Post as predecessors}
 use Rattle.graph.proofs.EventGraph.concurrent.Reads.{Post as concurrent}
@@ -62,9 +61,6 @@ named-once κs a x y s t p q = one-answer p q
 
 pub greatest-critical-frontier-once : Once greatest-critical-frontier
 greatest-critical-frontier-once κs a x y s t p q = one-answer p q
-
-pub is-critical-at-once : Once is-critical-at
-is-critical-at-once κs a x y s t p q = one-answer p q
 
 pub is-critical-once : Once is-critical
 is-critical-once κs a x y s t p q = one-answer p q
