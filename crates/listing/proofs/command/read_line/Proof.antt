@@ -11,7 +11,7 @@ use Rattle.listing.proofs.command.read_line.Tie as tie
 
 returns : tie.Need-returns
 unfolding lineTold
-returns c = rw (lt-ltb _ _ (c .if1 .taken)) (record { command = refl; content = refl })
+returns c = rw (lt-ltb 512 _ (c .if1 .taken)) (record { command = refl; content = refl })
 
 word-end-requires : tie.Need-word-end-requires
 word-end-requires c κs = search needs
