@@ -9,11 +9,12 @@ use Rattle.clocks.specs.Vectors.{wellFormed, wellFormedFor, covers, atMost}
 use Rattle.clocks.specs.Frontiers.{newFrontier, fromEntries, joinEntries}
 use Rattle.positions.specs.Bits.{bit}
 use Rattle.positions.specs.Members.{has, setOf, numberOf}
-use Rattle.graph.specs.Slots.{sameSlot, isAt, coveredAt, rowAt, pastOf}
+use Rattle.tables.specs.Slots.{sameSlot, isAt, coveredAt, rowAt, pastOf}
 use Rattle.graph.specs.Refusals.{isKnown, siblingLast, isLate, isBehind, isNotClosed, refusalOf, lateNo, notClosedNo}
 use Rattle.graph.specs.Graphs.{created, pushed, appended, placeOf}
-use Rattle.graph.specs.Cuts.{cutAt, highestSeq, prefixFrontier, cutInside, greatest, isCritical}
-use Rattle.graph.specs.Removals.{closed, closedRows, kept, withoutId, flushed}
+use Rattle.tables.specs.Ranks.{cutAt, highestSeq, closed, closedRows}
+use Rattle.graph.specs.Cuts.{prefixFrontier, cutInside, greatest, isCritical}
+use Rattle.graph.specs.Removals.{kept, withoutId, flushed}
 use Rattle.examples.specs.Examples.{starred, holds, is, gives, cutsOf, parentsOf, fresh, addA, addB, addC, addD, graphG, flushedG, withoutB, note}
 
 t0 : (is (cutsOf (addA fresh)) (1 ∷ [])) ≡ true

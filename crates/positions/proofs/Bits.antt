@@ -12,6 +12,7 @@ use lib.Bits.{bitAnd, bitOr, and-step, or-step, and-mask, shifted-half, shifted-
 use lib.Count.{ones, ones-step, under, trailingZeros, trailing-le, leadingZeros, leading-top, leading-of-zero}
 use borrow.Author.Tests.{lt-ltb, le-ltb, not-true, not-false}
 use Rattle.laws.specs.Counting.{one, countBelow}
+use Rattle.laws.proofs.Orders.{le-or-lt}
 use Rattle.laws.proofs.Counting.{count-first}
 use Rattle.positions.specs.Bits.{isOne, bit, LowZero, BitLength, LoweredWord}
 
@@ -236,19 +237,29 @@ digit-law w zero k j p q = rw (zero-mul, zero-mod) (bit-or j w 0 ∙ rw bit-zero
 digit-law w (suc zero) k j p q = rw (shl-one k q) (bit-or j w (2 ^ k) ∙ rw bit-pow)
 digit-law w (suc (suc d)) k j p q = absurd (omega arith)
 
-pub lowered-law : (low high s : ℕ) → low < 2 ^ 64 → 0 < s → s < 64 → LoweredWord low high s (bitOr (low / 2 ^ s) ((high * 2 ^ (64 - s)) % 2 ^ 64))
-lowered-law low high s h p q = record {
-  near = λ j l. let none : bit (high * 2 ^ (64 - s)) j ≡ false = bit-shl-low (64 - s) j high (omega arith) in
-      both j ∙ rw none (or-false (bit low (j + s)));
+pub lowered-law : (low high s : ℕ) → low < 2 ^ 64 → s < 64 → LoweredWord low high s (bitOr (low / 2 ^ s) ((high * 2 ^ 1 % 2 ^ 64 * 2 ^ (63 - s)) % 2 ^ 64))
+lowered-law low high s h q = record {
+  near = λ j l. both j ∙ rw (none j l) (or-false (bit low (j + s)));
   far = λ j l m.
       let out : bit low (j + s) ≡ false = bit-high (j + s) low 64 h m in
-      let e : j ≡ ((j + s) - 64) + (64 - s) = omega arith in
-      let up : bit (high * 2 ^ (64 - s)) j ≡ bit high ((j + s) - 64) = ap (bit (high * 2 ^ (64 - s))) e ∙ bit-shl-high (64 - s) ((j + s) - 64) high in
-      both j ∙ rw (out, lt-ltb j 64 l, up) (and-true (bit high ((j + s) - 64)));
+      both j ∙ rw (out, lt-ltb j 64 l, up j l m) (and-true (bit high ((j + s) - 64)));
 }
   where
-    both : (j : ℕ) → bit (bitOr (low / 2 ^ s) ((high * 2 ^ (64 - s)) % 2 ^ 64)) j ≡ (bit low (j + s) || (bit (high * 2 ^ (64 - s)) j && ltb j 64))
-    both j = bit-or j (low / 2 ^ s) ((high * 2 ^ (64 - s)) % 2 ^ 64) ∙ ap₂ (λ (x y : Bool). x || y) (bit-shr s j low) (bit-mod 64 j (high * 2 ^ (64 - s)))
+    one-up : ℕ
+    one-up = high * 2 ^ 1 % 2 ^ 64
 
-pub lowered-none : (low high s : ℕ) → s ≡ 0 → LoweredWord low high s low
-lowered-none low high s e = rw e (record { near = λ j l. ap (bit low) (sym (add-zero j)); far = λ j l m. absurd (omega arith) })
+    both : (j : ℕ) → bit (bitOr (low / 2 ^ s) ((one-up * 2 ^ (63 - s)) % 2 ^ 64)) j ≡ (bit low (j + s) || (bit (one-up * 2 ^ (63 - s)) j && ltb j 64))
+    both j = bit-or j (low / 2 ^ s) ((one-up * 2 ^ (63 - s)) % 2 ^ 64) ∙ ap₂ (λ (x y : Bool). x || y) (bit-shr s j low) (bit-mod 64 j (one-up * 2 ^ (63 - s)))
+
+    -- the lowest bit that comes from `high` is none
+    none : (j : ℕ) → j + s < 64 → bit (one-up * 2 ^ (63 - s)) j ≡ false
+    none j l = ⊎-elim
+        (λ (p : 63 - s ≤ j). let e : j ≡ 0 + (63 - s) = omega arith in
+        ap (bit (one-up * 2 ^ (63 - s))) e ∙ bit-shl-high (63 - s) 0 one-up ∙ bit-mod 64 0 (high * 2 ^ 1) ∙ rw (bit-shl-low 1 0 high (omega arith)))
+        (λ (p : j < 63 - s). bit-shl-low (63 - s) j one-up p) (le-or-lt (63 - s) j)
+
+    up : (j : ℕ) → j < 64 → 64 ≤ j + s → bit (one-up * 2 ^ (63 - s)) j ≡ bit high ((j + s) - 64)
+    up j l m =
+        let e : j ≡ (((j + s) - 64) + 1) + (63 - s) = omega arith in
+        ap (bit (one-up * 2 ^ (63 - s))) e ∙ bit-shl-high (63 - s) (((j + s) - 64) + 1) one-up ∙ bit-mod 64 (((j + s) - 64) + 1) (high * 2 ^ 1)
+        ∙ rw (bit-shl-high 1 ((j + s) - 64) high, lt-ltb (((j + s) - 64) + 1) 64 (omega arith)) (and-true (bit high ((j + s) - 64)))

@@ -34,11 +34,7 @@ pub(super) fn lowered(low: u64, high: u64, s: usize) -> u64
     requires { ⌜ s < 64 ⌝ }
     ensures { λ r. ⌜ LoweredWord low high s r ⌝ }
 {
-    if s == 0 {
-        low
-    } else {
-        (low >> s) | (high << (64 - s))
-    }
+    (low >> s) | ((high << 1) << (63 - s))
 }
 
 // The word `j`; beyond the four words there are only zeros.

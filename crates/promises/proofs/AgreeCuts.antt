@@ -7,7 +7,7 @@ use native.Mathlib.Nat.{le-antisymm}
 use native.Mathlib.Omega.{arith}
 use Rattle.laws.proofs.Orders.{le-or-lt, bool-iff}
 use Rattle.positions.specs.Members.{has}
-use Rattle.graph.specs.Slots.{descends}
+use Rattle.tables.specs.Slots.{descends}
 use Rattle.graph.proofs.DescentLaws.{recorded-intro, recorded-held, recorded-elim}
 use Rattle.promises.specs.Reached.{Versions}
 use Rattle.promises.specs.Demand.{SameId}

@@ -16,10 +16,12 @@ use Rattle.laws.proofs.Lists.{tabulate-cong}
 use Rattle.clocks.specs.Vectors.{desks}
 use Rattle.positions.specs.Members.{has}
 use Rattle.graph.specs.Refusals.{covered}
-use Rattle.graph.specs.Cuts.{highestSeq, prefixFrontier, cutInside, greatest}
+use Rattle.tables.specs.Ranks.{highestSeq}
+use Rattle.graph.specs.Cuts.{prefixFrontier, cutInside, greatest}
 use Rattle.graph.specs.Invariant.{replicaAt, seqAt}
 use Rattle.graph.proofs.DescentLaws.{recorded-held}
-use Rattle.graph.proofs.FlushLaws.{covered-intro, covered-elim, inside}
+use Rattle.graph.proofs.CoverLaws.{covered-intro, covered-elim}
+use Rattle.graph.proofs.CriticalLaws.{inside}
 use Rattle.promises.specs.Reached.{Versions}
 use Rattle.promises.specs.Demand.{Agree}
 use Rattle.graph.specs.declared.EventGraph.{EventGraph}

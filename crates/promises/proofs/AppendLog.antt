@@ -10,13 +10,14 @@ use borrow.Author.Tests.{lt-ltb, le-ltb, eq-eqb}
 use Rattle.laws.proofs.Orders.{le-or-lt, imp-of, true-or-false, is-false}
 use Rattle.clocks.specs.Vectors.{entry, wellFormed}
 use Rattle.clocks.proofs.Vectors.{well-formed-for, well-formed-length, at-most-elim}
-use Rattle.graph.specs.Slots.{codeOf, descends}
+use Rattle.tables.specs.Slots.{codeOf, descends}
 use Rattle.graph.specs.Refusals.{isBehind, refusalOf}
 use Rattle.graph.specs.Graphs.{pushed}
 use Rattle.graph.specs.Invariant.{GraphOk, replicaAt, seqAt, Siblings}
 use Rattle.graph.proofs.DescentLaws.{accepted-facts}
 use Rattle.graph.proofs.InvariantLaws.{push-ok}
-use Rattle.graph.proofs.NotesLaws.{OneMore, push-one-more, more-notes, timely-cases, AfterSibling, other-id, older}
+use Rattle.graph.proofs.AppendNotes.{OneMore, push-one-more, more-notes, older}
+use Rattle.graph.proofs.AcceptedLaws.{timely-cases, AfterSibling, other-id}
 use Rattle.promises.specs.Reached.{Versions, withVersion, versionAt}
 use Rattle.clocks.specs.declared.event.Event.{Event}
 use Rattle.clocks.specs.declared.id.EventId.{EventId}

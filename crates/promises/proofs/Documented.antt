@@ -9,7 +9,7 @@ use borrow.Author.Tests.{lt-ltb, le-leb, leb-true}
 use Rattle.laws.proofs.Orders.{and-both, is-false}
 use Rattle.clocks.specs.Vectors.{entry}
 use Rattle.positions.specs.Members.{has}
-use Rattle.graph.specs.Slots.{descends}
+use Rattle.tables.specs.Slots.{descends}
 use Rattle.graph.specs.Graphs.{parents, heads}
 use Rattle.graph.specs.Invariant.{replicaAt, seqAt}
 use Rattle.graph.proofs.DescentLaws.{recorded-intro, recorded-held, recorded-elim}

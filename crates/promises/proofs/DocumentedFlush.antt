@@ -15,11 +15,14 @@ use Rattle.clocks.specs.Vectors.{wellFormed}
 use Rattle.positions.specs.Members.{has}
 use Rattle.graph.specs.Refusals.{covered}
 use Rattle.graph.specs.Cuts.{isCritical}
-use Rattle.graph.specs.Removals.{closed, kept, rootedAt, flushed}
-use Rattle.graph.proofs.KeptLaws.{from, rank-count}
+use Rattle.tables.specs.Ranks.{closed}
+use Rattle.graph.specs.Removals.{kept, rootedAt, flushed}
+use Rattle.tables.proofs.ClosingLaws.{rank-count}
+use Rattle.graph.proofs.KeptLaws.{from}
 use Rattle.graph.proofs.RemainLaws.{was, was-kept, was-held, stands}
 use Rattle.graph.proofs.MeaningLaws.{flush-held}
-use Rattle.graph.proofs.FlushLaws.{covered-intro, covered-elim, critical-prefix}
+use Rattle.graph.proofs.CoverLaws.{covered-intro, covered-elim}
+use Rattle.graph.proofs.CriticalLaws.{critical-prefix}
 use Rattle.graph.proofs.RemovalCases.{stays, stays-held, flush-cases}
 use Rattle.promises.specs.Reached.{Versions}
 use Rattle.promises.specs.Demand.{SameNote}

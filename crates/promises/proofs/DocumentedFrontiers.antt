@@ -21,7 +21,9 @@ use Rattle.graph.specs.Refusals.{covered}
 use Rattle.graph.specs.Graphs.{appended}
 use Rattle.graph.specs.Cuts.{baseOf, prefixFrontier, cutInside, outside, frontierFound, greatest, atBase, isCritical}
 use Rattle.graph.specs.Invariant.{replicaAt, seqAt}
-use Rattle.graph.proofs.FlushLaws.{covered-intro, covered-elim, desk-small, prefix-base, prefix-up, prefix-hit, AtCut, critical-exactly, inside, same-entries, same-intro}
+use Rattle.graph.proofs.CoverLaws.{covered-intro, covered-elim}
+use Rattle.graph.proofs.FrontierLaws.{desk-small, prefix-base, prefix-up, prefix-hit}
+use Rattle.graph.proofs.CriticalLaws.{AtCut, critical-exactly, inside, same-entries, same-intro}
 use Rattle.promises.specs.Reached.{Versions, versionAt}
 use Rattle.promises.specs.Documented.{Covers, IsCut, rootAt, FrontierOf, CriticalFrontier, CutInside, GreatestInside, HasAnswer}
 use Rattle.clocks.specs.declared.causal_frontier.CausalFrontier.{CausalFrontier}

@@ -8,7 +8,7 @@ use Rattle.laws.specs.Counting.{anyBelow}
 use Rattle.laws.proofs.Orders.{le-or-lt, true-or-false}
 use Rattle.laws.proofs.Counting.{any-elim}
 use Rattle.laws.proofs.Searching.{any-false, decided-prefix}
-use Rattle.graph.specs.Slots.{descends}
+use Rattle.tables.specs.Slots.{descends}
 use Rattle.promises.specs.Reached.{Versions, versionAt}
 use Rattle.promises.specs.Documented.{Covers, Before, IsCut, Under, CriticalVersion, MaximalBelow}
 use Rattle.graph.specs.declared.EventGraph.{EventGraph}

@@ -14,12 +14,13 @@ use Rattle.laws.specs.Counting.{pick}
 use Rattle.laws.proofs.Orders.{true-or-false}
 use Rattle.clocks.specs.Vectors.{entry}
 use Rattle.clocks.proofs.Vectors.{well-formed-for}
-use Rattle.graph.specs.Slots.{codeOf}
+use Rattle.tables.specs.Slots.{codeOf}
 use Rattle.graph.specs.Refusals.{refusalOf}
 use Rattle.graph.specs.Graphs.{pushed, appended}
 use Rattle.graph.specs.Invariant.{replicaAt, seqAt, codeAt}
 use Rattle.graph.proofs.DescentLaws.{accepted-facts}
-use Rattle.graph.proofs.NotesLaws.{OneMore, push-one-more, more-notes, other-id}
+use Rattle.graph.proofs.AppendNotes.{OneMore, push-one-more, more-notes}
+use Rattle.graph.proofs.AcceptedLaws.{other-id}
 use Rattle.promises.specs.Reached.{Versions, withVersion}
 use Rattle.promises.specs.Demand.{Note, Last, never, at, Among, here, there}
 use Rattle.clocks.specs.declared.event.Event.{Event}

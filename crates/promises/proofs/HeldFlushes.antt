@@ -19,9 +19,11 @@ use Rattle.graph.specs.Refusals.{covered}
 use Rattle.graph.specs.Cuts.{prefixFrontier, baseOf, isCritical, atBase}
 use Rattle.graph.specs.Removals.{kept, rootedAt, flushed}
 use Rattle.graph.specs.Invariant.{GraphOk, NotesOk}
-use Rattle.graph.proofs.FlushLaws.{covered-elim, base-entry, prefix-base, AtCut, critical-cut, same-entries}
+use Rattle.graph.proofs.CoverLaws.{covered-elim}
+use Rattle.graph.proofs.FrontierLaws.{base-entry, prefix-base}
+use Rattle.graph.proofs.CriticalLaws.{AtCut, critical-cut, same-entries}
 use Rattle.graph.proofs.RemainLaws.{closed-size, closed-at, was, was-held, stands}
-use Rattle.graph.proofs.KeptLaws.{rank-count}
+use Rattle.tables.proofs.ClosingLaws.{rank-count}
 use Rattle.graph.proofs.RemovalCases.{stays, stays-held, flush-cases}
 use Rattle.promises.specs.Reached.{Versions}
 use Rattle.promises.specs.Demand.{Note, Last, never, at}

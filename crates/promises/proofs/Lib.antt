@@ -24,3 +24,4 @@ pub mod OneAnswerClocks
 pub mod OneAnswerPositions
 pub mod OneAnswerHistory
 pub mod OneAnswerGraph
+pub mod OneAnswerTables

@@ -5,10 +5,10 @@ use Prim.Native.Nat.{ℕ, _<_, _≤_}
 use lib.Dec.{leb, ltb}
 use lib.ListN.{length}
 use Rattle.clocks.specs.Vectors.{entry}
-use Rattle.graph.specs.Slots.{descends}
+use Rattle.tables.specs.Slots.{descends}
 use Rattle.graph.specs.Invariant.{GraphOk, NotesOk, Siblings, replicaAt, seqAt}
-use Rattle.graph.specs.declared.EventGraph.{EventGraph}
 use Rattle.promises.specs.Reached.{Versions, versionAt}
+use Rattle.graph.specs.declared.EventGraph.{EventGraph}
 
 pub record LogOk (g : EventGraph) (W : Versions) : Type 0 where
   pub graph : GraphOk g

@@ -7,7 +7,7 @@ use native.Mathlib.Decide.{ℕ-discrete}
 use native.Mathlib.Omega.{arith}
 use Rattle.laws.proofs.Orders.{le-or-lt, is-false}
 use Rattle.clocks.specs.Vectors.{entry}
-use Rattle.graph.specs.Slots.{descends}
+use Rattle.tables.specs.Slots.{descends}
 use Rattle.graph.specs.Graphs.{parents, heads}
 use Rattle.graph.specs.Invariant.{NotesOk, replicaAt, seqAt}
 use Rattle.graph.proofs.MeaningLaws.{parent-elim, parent-intro, head-elim, head-intro}

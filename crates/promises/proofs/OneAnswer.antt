@@ -1,4 +1,4 @@
--- No second answer fits a contract: of every form that the contracts of `clocks`, `history` and `graph` have, two answers that both fit are equal,
+-- No second answer fits a contract: of every form that the contracts of `clocks`, `tables`, `history` and `graph` have, two answers that both fit are equal,
 -- with what they leave in the lent buffers. docs/ANSWERS.md says for each public function which of these statements it is. Sets: OneAnswerSets.antt.
 use mathlib.Core.Bool.{Bool}
 use mathlib.Core.List.{List}
@@ -13,7 +13,7 @@ use Rattle.clocks.specs.Versions.{Depends}
 use Rattle.history.specs.Appends.{Appends}
 use Rattle.history.specs.Lists.{Lists}
 use Rattle.history.specs.Prunes.{Prunes, PrunesOr}
-use Rattle.graph.specs.Graphs.{Writes, ListsIf}
+use Rattle.tables.specs.Listing.{Writes, ListsIf}
 use Rattle.clocks.specs.declared.event.Event.{Event}
 use Rattle.clocks.specs.declared.refusal.Listed.{Listed}
 use Rattle.clocks.specs.declared.version_vector.Version.{Version}
@@ -87,9 +87,9 @@ prunes-or-once p q =
     let t = one-answer (p .trace) (q .trace) in
     (λ i. record { refusal = m i; count = n i; history = t i }, one-answer (p .boundary) (q .boundary))
 
--- ---- graph
+-- ---- tables and graph
 
--- a list of positions, or of lengths, with the buffer; graph's `Lists` is `Writes` of the positions themselves
+-- a list of positions, or of lengths, with the buffer; `Lists` is `Writes` of the positions themselves
 pub writes-once : {t : ℕ → Bool} {f : ℕ → ℕ} {out a a′ : List ℕ} {r r′ : Listed} → Writes t f out a r → Writes t f out a′ r′ → (r ≡ r′) × (a ≡ a′)
 writes-once p q = (one-answer (p .answer) (q .answer), one-answer (p .list) (q .list))
 

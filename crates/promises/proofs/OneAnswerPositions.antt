@@ -27,7 +27,7 @@ use Rattle.promises.proofs.OneAnswer.{one-answer, Once}
 use Rattle.promises.proofs.OneAnswerSets.{Marked, compacted-once, planned-once, subset-once, missing-once, highest-once}
 
 -- two sets of whole words, or two plans, that fit are equal
-abbrev OnceWhole : {K : Type 0} {A S : K → Type 0} → ((κs : K) → A κs → Positions → S κs → Type 0) → Type 0
+abbrev pub OnceWhole : {K : Type 0} {A S : K → Type 0} → ((κs : K) → A κs → Positions → S κs → Type 0) → Type 0
 OnceWhole {K} {A} {S} P = (κs : K) (a : A κs) (x y : Positions) (s t : S κs) → Words (x .words) → Words (y .words) → P κs a x s → P κs a y t → x ≡ y
 
 abbrev OnceMarked : {K : Type 0} {A S : K → Type 0} → ((κs : K) → A κs → Compaction → S κs → Type 0) → Type 0

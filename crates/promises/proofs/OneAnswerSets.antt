@@ -1,5 +1,5 @@
--- No second answer fits a contract of `positions`. Of a set or a plan the contracts say the members and the marks; that the words are so many, each of
--- 64 bits, is the type's, and is asked here.
+-- No second answer fits a contract of `positions`, nor that of `reach` of `tables`. Of a set or a plan the contracts say the members and the marks; that
+-- the words are so many, each of 64 bits, is the type's, and is asked here.
 use mathlib.Core.Bool.{and-false, Bool, true, false, false≢true}
 use mathlib.Core.List.{List, [], _∷_}
 use mathlib.Core.Logic.{⊎-elim}
@@ -19,6 +19,7 @@ use Rattle.positions.specs.Compacting.{leaves, marked, Planned, Compacted}
 use Rattle.positions.proofs.Bits.{bit-ext, bit-zero}
 use Rattle.positions.proofs.Words.{none}
 use Rattle.positions.proofs.Members.{ext-positions}
+use Rattle.tables.specs.Slots.{Reaches}
 use Rattle.positions.specs.declared.Positions.{Positions}
 use Rattle.positions.specs.declared.Highest.{Highest}
 use Rattle.positions.specs.declared.Highest.the-variants.{At, Nothing}
@@ -94,6 +95,15 @@ highest-once p n (At i) (At k) a b =
 highest-once p n (At i) Nothing a b = absurd (clash (a .inside) (b (i .0) (a .under)))
 highest-once p n Nothing (At k) a b = absurd (clash (b .inside) (a (k .0) (b .under)))
 highest-once p n Nothing Nothing a b = refl
+
+-- `reach` of `tables`: of two that fit, neither is below the other
+reaches-at : {cov : ℕ → Bool} {m n : ℕ} → Reaches cov m → Reaches cov n → m < n → ⊥
+reaches-at {cov} {m} {n} a b l =
+    let s : m < 256 = omega (arith, b .most) in
+    clash (lt-ltb m n l) (b .upto m s ∙ (sym (a .upto m s) ∙ le-ltb m m (omega arith)))
+
+pub reaches-once : {cov : ℕ → Bool} {m n : ℕ} → Reaches cov m → Reaches cov n → m ≡ n
+reaches-once {cov} {m} {n} a b = neither m n (reaches-at a b) (reaches-at b a)
 
 -- ---- the functions on one word, which only this crate sees
 

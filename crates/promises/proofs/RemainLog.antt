@@ -22,7 +22,9 @@ use Rattle.graph.proofs.DescentLaws.{recorded-elim}
 use Rattle.graph.proofs.KeptLaws.{from, kept-ok}
 use Rattle.graph.proofs.RemainLaws.{was, was-kept, was-held, stands, was-before, was-descent, kept-notes, roots-moved}
 use Rattle.graph.proofs.ReachedLaws.{rooted-ok}
-use Rattle.graph.proofs.FlushLaws.{covered-intro, base-entry, desk-small, prefix-up, prefix-least, AtCut, critical-cut, same-entries}
+use Rattle.graph.proofs.CoverLaws.{covered-intro}
+use Rattle.graph.proofs.FrontierLaws.{base-entry, desk-small, prefix-up, prefix-least}
+use Rattle.graph.proofs.CriticalLaws.{AtCut, critical-cut, same-entries}
 use Rattle.graph.proofs.RemovalCases.{picks, picks-held, stays, stays-held, remove-cases, retain-cases, flush-cases}
 use Rattle.promises.specs.Reached.{Versions, versionAt}
 use Rattle.clocks.specs.declared.id.EventId.{EventId}

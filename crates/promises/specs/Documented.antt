@@ -7,16 +7,16 @@ use mathlib.Core.Path.{_≡_}
 use Prim.Native.Nat.{ℕ, suc, _+_, _<_, _≤_}
 use Rattle.laws.specs.Counting.{pick}
 use Rattle.clocks.specs.Vectors.{entry, wellFormed}
-use Rattle.clocks.specs.declared.event.Event.{Event}
 use Rattle.positions.specs.Members.{has}
-use Rattle.graph.specs.Slots.{descends}
+use Rattle.tables.specs.Slots.{descends}
 use Rattle.graph.specs.Graphs.{parents, heads, appended}
 use Rattle.graph.specs.Cuts.{isCritical, greatest}
 use Rattle.graph.specs.Removals.{flushed}
 use Rattle.graph.specs.Invariant.{replicaAt, seqAt}
-use Rattle.graph.specs.declared.EventGraph.{EventGraph}
 use Rattle.promises.specs.Reached.{Versions, versionAt}
 use Rattle.promises.specs.Demand.{SameNote}
+use Rattle.clocks.specs.declared.event.Event.{Event}
+use Rattle.graph.specs.declared.EventGraph.{EventGraph}
 
 -- id.rs, is_predecessor_of: "Returns `true` if sequence number of the version for the replica id is greater OR equal."
 -- document 01: "A frontier contains an id by the same rule."

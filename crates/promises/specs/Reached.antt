@@ -6,13 +6,13 @@ use mathlib.Core.Path.{_≡_}
 use Prim.Native.Nat.{ℕ, _+_}
 use lib.Dec.{eqb}
 use Rattle.laws.specs.Counting.{pick, one}
-use Rattle.clocks.specs.declared.event.Event.{Event}
-use Rattle.clocks.specs.declared.id.EventId.{EventId}
-use Rattle.graph.specs.Slots.{codeOf}
-use Rattle.graph.specs.Graphs as graphs
+use Rattle.tables.specs.Slots.{codeOf}
 use Rattle.graph.specs.Removals.{flushed, withoutId, retained, cleared}
 use Rattle.graph.specs.Invariant.{replicaAt, seqAt, codeAt}
+use Rattle.clocks.specs.declared.event.Event.{Event}
+use Rattle.clocks.specs.declared.id.EventId.{EventId}
 use Rattle.graph.specs.declared.EventGraph.{EventGraph}
+use Rattle.graph.specs.Graphs as graphs
 
 -- by replica, sequence and the code of the disambiguator
 abbrev pub Versions : Type 0

@@ -3,7 +3,7 @@ use mathlib.Core.Path.{sym, ap, _∙_}
 use mathlib.Core.Bool.{and-false}
 use borrow.Author.Tests.{le-leb, lt-leb}
 use borrow.Author.Needs.{needs}
-use Rattle.graph.proofs.SlotLaws.{not-zero}
+use Rattle.tables.proofs.SlotLaws.{not-zero}
 use Rattle.listing.specs.Commands.{vectorAt}
 use Rattle.listing.specs.declared.fields.Run.{Run}
 use Rattle.listing.proofs.fields.read_vector.Statement.{statement}

@@ -1,7 +1,6 @@
 -- The low part of the word comes from `low` shifted down, the rest from `high` shifted up.
-use native.Mathlib.Omega.{arith}
 use borrow.Author.Needs.{needs}
-use Rattle.positions.proofs.Bits.{lowered-law, lowered-none}
+use Rattle.positions.proofs.Bits.{lowered-law}
 use Rattle.positions.proofs.word.lowered.Statement.{statement}
 use Rattle.positions.proofs.word.lowered.Tie as tie
 
@@ -15,10 +14,7 @@ shl-result : tie.Need-shl-result
 shl-result c = search needs
 
 returns : tie.Need-returns
-returns c = lowered-none (c .before .args .low) (c .before .args .high) (c .before .args .s) (c .if1 .taken)
-
-returns-2 : tie.Need-returns-2
-returns-2 c = let a = c .before .args in let n = c .if1 .left in lowered-law (a .low) (a .high) (a .s) (c .before .fits .low .fits) (omega arith) (c .before .pre)
+returns c = let a = c .args in lowered-law (a .low) (a .high) (a .s) (c .fits .low .fits) (c .pre)
 
 pub lowered-spec : {M : Type 1} → statement M
-lowered-spec = tie.close (tie.spec shr-result sub-result shl-result returns returns-2)
+lowered-spec = tie.close (tie.spec shr-result sub-result shl-result returns)
