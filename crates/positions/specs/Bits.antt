@@ -1,7 +1,7 @@
 -- The bits of a number, and what the functions on one word of 64 bits answer.
 use mathlib.Core.Bool.{Bool, true, false}
 use mathlib.Core.Path.{_≡_}
-use Prim.Native.Nat.{ℕ, zero, suc, _+_, _-_, _/_, _%_, _<_, _≤_}
+use Prim.Native.Nat.{ℕ, zero, suc, _/_, _%_, _<_, _≤_}
 
 -- a digit as a truth value
 abbrev pub isOne : ℕ → Bool
@@ -24,8 +24,3 @@ pub record BitLength (w r : ℕ) : Type 0 where
   pub most : r ≤ 64
   pub above : (j : ℕ) → r ≤ j → bit w j ≡ false
   pub top : (j : ℕ) → r ≡ suc j → bit w j ≡ true
-
--- r is the word that starts at bit s of the two words low and high
-pub record LoweredWord (low high s r : ℕ) : Type 0 where
-  pub near : (j : ℕ) → j + s < 64 → bit r j ≡ bit low (j + s)
-  pub far : (j : ℕ) → j < 64 → 64 ≤ j + s → bit r j ≡ bit high ((j + s) - 64)

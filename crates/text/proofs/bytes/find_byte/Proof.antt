@@ -1,20 +1,20 @@
--- The place passed and the bytes that are left before the newline make the same sum.
+-- The place passed and the bytes that are left before such a byte make the same sum.
 use native.Mathlib.Numerals.{add-one}
 use Prim.Native.Nat.{_+_, _-_, _≤_}
 use mathlib.Core.Path.{_≡_, refl}
 use lib.ListN.{length, drop}
-use Rattle.text.specs.Lines.{beforeNewline}
+use Rattle.text.specs.Bytes.{bytesBefore}
 use Rattle.text.proofs.Before.{before-here, before-later, before-none}
 use native.Mathlib.Omega.{arith}
 use borrow.Author.Needs.{needs}
-use Rattle.text.proofs.lines.line_end.Statement.{statement}
-use Rattle.text.proofs.lines.line_end.Tie as tie
+use Rattle.text.proofs.bytes.find_byte.Statement.{statement}
+use Rattle.text.proofs.bytes.find_byte.Tie as tie
 
 abbrev Inv-loop : tie.InvT-loop
-Inv-loop piece at i₀ i = (at ≤ i) × (at + beforeNewline (drop at piece) ≡ i + beforeNewline (drop i piece))
+Inv-loop s at b i₀ i = (at ≤ i) × (at + bytesBefore b (drop at s) ≡ i + bytesBefore b (drop i s))
 
 abbrev μ-loop : tie.MeasureT-loop
-μ-loop piece at i₀ i = length piece - i
+μ-loop s at b i₀ i = length s - i
 
 loop-holds : tie.Need-loop-holds Inv-loop μ-loop
 loop-holds c = (omega arith, refl)
@@ -23,7 +23,7 @@ shared-slice-read-if1 : tie.Need-shared-slice-read-if1 Inv-loop μ-loop
 shared-slice-read-if1 c = search needs
 
 returns : tie.Need-returns Inv-loop μ-loop
-returns c = let a = c .before .before .before .before .args in let l = c .before .before .before .loop in omega (arith, l .inv .1, before-here 10 (a .piece .now) (l .i) (c .before .before .loop-test .taken) (c .if1 .taken))
+returns c = let a = c .before .before .before .before .args in let l = c .before .before .before .loop in omega (arith, l .inv .1, before-here (a .b) (a .s .now) (l .i) (c .before .before .loop-test .taken) (c .if1 .taken))
 
 add-i : tie.Need-add-i Inv-loop μ-loop
 add-i c = search needs
@@ -34,13 +34,13 @@ loop-less c = search needs
 loop-again : tie.Need-loop-again Inv-loop μ-loop
 loop-again c = let a = c .before .before .before .before .args in
     let l = c .before .before .before .loop in
-    rw add-one (omega arith, omega (arith, l .inv .1, before-later 10 (a .piece .now) (l .i) (c .before .before .loop-test .taken) (c .if1 .left)))
+    rw add-one (omega arith, omega (arith, l .inv .1, before-later (a .b) (a .s .now) (l .i) (c .before .before .loop-test .taken) (c .if1 .left)))
 
 returns-2 : tie.Need-returns-2 Inv-loop μ-loop
-returns-2 c = let a = c .before .before .args in let l = c .before .loop in omega (arith, l .inv .1, before-none 10 (a .piece .now) (l .i) (c .loop-test .left))
+returns-2 c = let a = c .before .before .args in let l = c .before .loop in omega (arith, l .inv .1, before-none (a .b) (a .s .now) (l .i) (c .loop-test .left))
 
-pub line-end-spec : {M : Type 1} → statement M
-line-end-spec =
+pub find-byte-spec : {M : Type 1} → statement M
+find-byte-spec =
     tie.close
     (tie.spec
     Inv-loop
