@@ -1,5 +1,5 @@
 -- Laws of the bits of a number: what the operators of the code do to each bit.
-use mathlib.Core.Bool.{and-true, or-false, Bool, true, false, _&&_, _||_, not}
+use mathlib.Core.Bool.{and-true, Bool, true, false, _&&_, _||_, not}
 use mathlib.Core.Logic.{⊎-elim}
 use mathlib.Core.Path.{_≡_, refl, sym, ap, ap₂, _∙_}
 use Prim.Native.Nat.{ℕ, zero, suc, _+_, _-_, _*_, _/_, _%_, _^_, _<_, _≤_, min, max}
@@ -13,9 +13,9 @@ use lib.Count.{ones, ones-step, under, trailingZeros, trailing-le, leadingZeros,
 use borrow.Author.Tests.{lt-ltb, le-ltb, not-true, not-false}
 use Rattle.numbers.specs.Words.{joinedWords}
 use Rattle.laws.specs.Counting.{one, countBelow}
-use Rattle.laws.proofs.Orders.{le-or-lt}
 use Rattle.laws.proofs.Counting.{count-first}
-use Rattle.positions.specs.Bits.{isOne, bit, LowZero, BitLength}
+use Rattle.positions.specs.Bits.{isOne, bit}
+use Rattle.positions.specs.Inner.{LowZero, BitLength}
 
 -- a digit is 0 or 1
 mod2 : (n : ℕ) → n % 2 < 2

@@ -16,7 +16,8 @@ use Rattle.numbers.specs.Words.{joinedWords}
 use Rattle.laws.specs.Counting.{countBelow}
 use Rattle.laws.proofs.Orders.{le-or-lt, ltb-iff}
 use Rattle.laws.proofs.Counting.{count-add, count-cong}
-use Rattle.positions.specs.Bits.{bit, LowZero, BitLength}
+use Rattle.positions.specs.Bits.{bit}
+use Rattle.positions.specs.Inner.{LowZero, BitLength}
 use Rattle.positions.specs.Members.{has, FirstMissing, HighestAt}
 use Rattle.positions.specs.declared.Positions.{Positions}
 use Rattle.positions.proofs.Bits.{bit-mask, bit-or, bit-zero, joined-near, joined-far}

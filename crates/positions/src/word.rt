@@ -4,7 +4,8 @@ ghost use mathlib.Core.Bool.{not, _&&_, _||_};
 ghost use Prim.Native.Nat.{ℕ, _<_, _≤_};
 ghost use lib.ListN.{getD};
 ghost use lib.Dec.{ltb, eqb};
-ghost use Rattle.positions.specs.Bits.{isOne, bit, LowZero, BitLength};
+ghost use Rattle.positions.specs.Bits.{isOne, bit};
+ghost use Rattle.positions.specs.Inner.{LowZero, BitLength};
 ghost use Rattle.laws.specs.Counting.{countBelow};
 
 // Sets the bit `k` where the digit `d` is 1, with no branch.

@@ -13,7 +13,8 @@ use lib.Seq.{ext-getD}
 use borrow.Author.Tests.{lt-ltb, le-ltb}
 use Rattle.laws.specs.Counting.{anyBelow}
 use Rattle.laws.proofs.Orders.{le-or-lt}
-use Rattle.positions.specs.Bits.{bit, LowZero, BitLength}
+use Rattle.positions.specs.Bits.{bit}
+use Rattle.positions.specs.Inner.{LowZero, BitLength}
 use Rattle.positions.specs.Members.{has, Words, FirstMissing, Subset, IsHighest}
 use Rattle.positions.specs.Compacting.{leaves, marked, Planned, Compacted}
 use Rattle.positions.proofs.Bits.{bit-ext, bit-zero}

@@ -5,8 +5,8 @@ use native.Mathlib.Nat.{zero-add}
 use native.Mathlib.Omega.{arith}
 use borrow.Author.Tests.{lt-ltb, le-ltb}
 use borrow.Author.Needs.{needs}
-use Rattle.listing.specs.Commands.{lineTold}
 use Rattle.text.proofs.Before.{before-le}
+use Rattle.listing.specs.Commands.{lineTold}
 use Rattle.listing.proofs.command.read_line.Statement.{statement}
 use Rattle.listing.proofs.command.read_line.Tie as tie
 

@@ -1,12 +1,12 @@
 -- The place passed and the bytes that are left before such a byte make the same sum.
-use native.Mathlib.Numerals.{add-one}
-use Prim.Native.Nat.{_+_, _-_, _≤_}
 use mathlib.Core.Path.{_≡_, refl}
+use Prim.Native.Nat.{_+_, _-_, _≤_}
+use native.Mathlib.Numerals.{add-one}
+use native.Mathlib.Omega.{arith}
 use lib.ListN.{length, drop}
+use borrow.Author.Needs.{needs}
 use Rattle.text.specs.Bytes.{bytesBefore}
 use Rattle.text.proofs.Before.{before-here, before-later, before-none}
-use native.Mathlib.Omega.{arith}
-use borrow.Author.Needs.{needs}
 use Rattle.text.proofs.bytes.find_byte.Statement.{statement}
 use Rattle.text.proofs.bytes.find_byte.Tie as tie
 

@@ -1,10 +1,10 @@
 -- The part of the line that the piece holds is stored as far as the buffer reaches, and the place behind it follows from where the line ends.
-use Prim.Native.Nat.{_+_, _-_}
 use mathlib.Core.Path.{_≡_, _∙_}
+use Prim.Native.Nat.{_+_, _-_}
 use native.Mathlib.Nat.{min-le-left}
-use Rattle.text.proofs.Pieces.{newline-within, feed-none, feed-ended, feed-open}
 use native.Mathlib.Omega.{arith}
 use borrow.Author.Needs.{needs}
+use Rattle.text.proofs.Pieces.{newline-within, feed-none, feed-ended, feed-open}
 use Rattle.text.proofs.lines.feed.Statement.{statement}
 use Rattle.text.proofs.lines.feed.Tie as tie
 
