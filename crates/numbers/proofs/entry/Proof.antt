@@ -1,9 +1,9 @@
--- Within the length the entry is read; past it the default 0 is what `getD` gives.
+-- Within the length the number is read; past it the default 0 is what `getD` gives.
 use mathlib.Core.Path.{sym}
 use lib.ListN.{List·getD-eq-default}
 use borrow.Author.Needs.{needs}
-use Rattle.clocks.proofs.vector.seq_by_idx.Statement.{statement}
-use Rattle.clocks.proofs.vector.seq_by_idx.Tie as tie
+use Rattle.numbers.proofs.entry.Statement.{statement}
+use Rattle.numbers.proofs.entry.Tie as tie
 
 mul-result : tie.Need-mul-result
 mul-result c = search needs
@@ -17,5 +17,5 @@ returns c = search needs
 returns-2 : tie.Need-returns-2
 returns-2 c = sym (List·getD-eq-default (c .before .args .v .now) 0 (c .if1 .left))
 
-pub seq-by-idx-spec : {M : Type 1} → statement M
-seq-by-idx-spec = tie.close (tie.spec mul-result shared-slice-read-result returns returns-2)
+pub entry-spec : {M : Type 1} → statement M
+entry-spec = tie.close (tie.spec mul-result shared-slice-read-result returns returns-2)
