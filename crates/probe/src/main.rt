@@ -3,7 +3,9 @@
 mod state;
 
 use clocks::vector::Seq;
+use probe_text::parts::bytes;
 use state::State;
+use state::answer;
 use text::lines::Held;
 
 // An answer has room: a list of 512 events takes 67 bytes each at most.
@@ -25,10 +27,19 @@ fn flush(out: &[u8], at: usize) {
     }
 }
 
-// What was answered is written before the next read, so a driver that waits for answers gets them.
+fn has_room(out: &[u8], at: usize) -> bool {
+    if out.len() < at {
+        return false;
+    }
+    LONGEST_ANSWER <= out.len() - at
+}
+
+// What is collected is written where the longest answer has no room behind it, and before each read, so a driver that waits for answers gets them.
 fn written(r: Reading, out: &[u8], at: usize) -> usize {
     if r.at < r.end {
-        return at;
+        if has_room(out, at) {
+            return at;
+        }
     }
     flush(out, at);
     0
@@ -42,11 +53,15 @@ fn current(r: Reading) -> Held {
     r.held
 }
 
-fn is_empty(held: Held) -> bool {
-    if held.overlong {
+// Whether the line so far is the last: it lacks its newline.
+fn is_last(end: usize, held: Held) -> bool {
+    if 0 < end {
         return false;
     }
-    held.len == 0
+    if held.overlong {
+        return true;
+    }
+    0 < held.len
 }
 
 // How many bytes one read put at the buffer's start; 0 at the end of the input, or where the read failed.
@@ -55,7 +70,7 @@ fn read_some(input: &mut [u8]) -> usize {
     io::count(got, input)
 }
 
-// The next piece of the input. At its end a last line may lack its newline.
+// The next piece of the input.
 fn refilled(r: Reading, input: &mut [u8]) -> Reading {
     let held = current(r);
     let end = read_some(input);
@@ -63,22 +78,19 @@ fn refilled(r: Reading, input: &mut [u8]) -> Reading {
         at: 0,
         end,
         held,
-        whole: end == 0 && !is_empty(held),
+        whole: is_last(end, held),
         ended: end == 0,
     }
 }
 
 // The next part of the line.
 fn fed(r: Reading, input: &[u8], line: &mut [u8]) -> Reading {
-    let end = r.end;
-    if input.len() < end {
-        return r;
-    }
-    let taken = text::lines::feed(line, current(r), &input[0..end], r.at);
+    let piece = bytes(input, 0, r.end);
+    let taken = text::lines::feed(line, current(r), piece, r.at);
     let held = taken.held;
     Reading {
         at: taken.next,
-        end,
+        end: r.end,
         held,
         whole: taken.complete,
         ended: false,
@@ -92,36 +104,12 @@ fn advanced(r: Reading, input: &mut [u8], line: &mut [u8]) -> Reading {
     refilled(r, input)
 }
 
-// Room for the longest answer.
-fn make_room(out: &[u8], at: usize) -> usize {
-    if at <= out.len() {
-        if LONGEST_ANSWER <= out.len() - at {
-            return at;
-        }
-    }
-    flush(out, at);
-    0
-}
-
-// Answers the line that is held. An overlong one is no line.
-fn answered(
-    st: State,
-    held: Held,
-    line: &[u8],
-    out: &mut [u8],
-    versions: &mut [Seq; 8192],
-    notes: &mut [u64; 1536],
-    boundaries: &mut [Seq; 256],
-) -> State {
-    let st = st.moved(make_room(out, st.at));
-    let n = held.len;
+// The line that is held. An overlong one is no line, as an empty one is none.
+fn text_of(held: Held, line: &[u8]) -> &[u8] {
     if held.overlong {
-        return state::refuse(st, out);
+        return bytes(line, 0, 0);
     }
-    if line.len() < n {
-        return state::refuse(st, out);
-    }
-    state::answer(st, &line[0..n], out, versions, notes, boundaries)
+    bytes(line, 0, held.len)
 }
 
 // A proved loop has to end, and nothing says that the input does: the turns are counted down from a number that no run uses up.
@@ -144,13 +132,12 @@ fn run(
     let mut turns = u64::MAX;
     while 0 < turns {
         st = st.moved(written(r, out, st.at));
+        if r.ended {
+            return;
+        }
         r = advanced(r, input, line);
         if r.whole {
-            st = answered(st, r.held, line, out, versions, notes, boundaries);
-        }
-        if r.ended {
-            flush(out, st.at);
-            return;
+            st = answer(st, text_of(r.held, line), out, versions, notes, boundaries);
         }
         turns -= 1;
     }

@@ -9,9 +9,12 @@ use probe_history::Traced;
 use probe_history::Traces;
 use probe_text::answers::refused;
 use probe_text::lent::MOST_ROOM;
+use probe_text::parts::bytes;
+use probe_text::parts::entry;
+use probe_text::parts::part;
 use probe_text::tokens::MOST_TOKENS;
 use probe_text::tokens::parse;
-use probe_text::values::entry;
+use probe_text::words::NO_ROW;
 use probe_text::words::row;
 use text::bytes::byte_at;
 
@@ -63,29 +66,31 @@ impl State {
         self
     }
 
-    // `room N`
     fn roomy(mut self, room: usize) -> State {
         self.room = room;
         self
     }
 }
 
-// What is no line.
-pub fn refuse(st: State, out: &mut [u8]) -> State {
-    st.moved(refused(out, st.at, BAD_LINE))
+// What `room N` is refused with, or 0.
+fn room_refusal(line: &[u8], kinds: &[u8], values: &[usize]) -> usize {
+    if row(b"room:n", line, kinds, values) == NO_ROW {
+        return BAD_LINE;
+    }
+    if MOST_ROOM < entry(values, 0) {
+        return BAD_LINE;
+    }
+    ACCEPTED
 }
 
-// The words of no module: `room N`.
+// The word of no module, `room N`.
 fn room(st: State, line: &[u8], kinds: &[u8], values: &[usize], out: &mut [u8]) -> State {
-    let room = entry(values, 0);
-    if row(b"room:n", line, kinds, values) != 0 {
-        return refuse(st, out);
+    let refusal = room_refusal(line, kinds, values);
+    let st = st.moved(refused(out, st.at, refusal));
+    if refusal == ACCEPTED {
+        return st.roomy(entry(values, 0));
     }
-    if MOST_ROOM < room {
-        return refuse(st, out);
-    }
-    let st = st.roomy(room);
-    st.moved(refused(out, st.at, ACCEPTED))
+    st
 }
 
 // One line, taken apart and handed to the module of its word. The tables are those of the history.
@@ -100,11 +105,8 @@ pub fn answer(
     let mut kinds = [0u8; MOST_TOKENS];
     let mut values = [0usize; MOST_TOKENS];
     let n = parse(line, &mut kinds, &mut values);
-    if MOST_TOKENS < n {
-        return refuse(st, out);
-    }
-    let kinds = &kinds[0..n];
-    let values = &values[0..n];
+    let kinds = bytes(&kinds, 0, n);
+    let values = part(&values, 0, n);
     by_word(st, line, kinds, values, out, versions, notes, boundaries)
 }
 

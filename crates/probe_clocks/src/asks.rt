@@ -10,7 +10,7 @@ use clocks::replica::ReplicaIdx;
 use clocks::version_vector::Version;
 use probe_text::answers::Answer;
 use probe_text::answers::yes_no;
-use probe_text::values::entry;
+use probe_text::parts::entry;
 use probe_text::values::id;
 use probe_text::words::row;
 

@@ -12,11 +12,12 @@ use probe_text::lent::PATTERN;
 use probe_text::lent::count;
 use probe_text::lent::is_kept;
 use probe_text::lent::refusal;
-use probe_text::values::entry;
+use probe_text::parts::entry;
+use probe_text::words::NO_ROW;
 use probe_text::words::row;
 
 pub fn is_word(line: &[u8], kinds: &[u8], values: &[usize]) -> bool {
-    row(b"c.dependencies:nv", line, kinds, values) == 0
+    row(b"c.dependencies:nv", line, kinds, values) != NO_ROW
 }
 
 pub fn listed(

@@ -10,7 +10,7 @@ use clocks::refusal::ACCEPTED;
 use clocks::replica::ReplicaIdx;
 use clocks::version_vector::Version;
 use clocks::version_vector::VersionAnswer;
-use probe_text::values::entry;
+use probe_text::parts::entry;
 use probe_text::words::row;
 
 const SET: usize = 0;
@@ -20,8 +20,6 @@ const INCREMENT: usize = 1;
 const JOIN: usize = 2;
 
 const MEET: usize = 3;
-
-const JOIN_VERSION: usize = 4;
 
 pub fn word(line: &[u8], kinds: &[u8], values: &[usize]) -> usize {
     row(

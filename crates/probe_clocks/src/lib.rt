@@ -8,7 +8,7 @@ use clocks::causal_frontier::CausalFrontier;
 use clocks::refusal::ACCEPTED;
 use clocks::refusal::BAD_LINE;
 use probe_text::answers;
-use probe_text::values::entry;
+use probe_text::parts::entry;
 use probe_text::words::NO_ROW;
 use probe_text::words::row;
 
@@ -64,7 +64,7 @@ fn asked(
     }
     let word = frontiers::word(line, kinds, values);
     if word == NO_ROW {
-        return answers::told(out, at, asks::asked(r, line, kinds, values));
+        return answers::told(out, at, asks::asked(r, line, kinds, values), false);
     }
     let a = frontiers::called(word, r, kinds, values);
     answers::frontier(out, at, a.refusal, a.frontier)

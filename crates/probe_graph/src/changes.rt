@@ -5,8 +5,9 @@ use clocks::refusal::BAD_LINE;
 use graph::EventGraph;
 use graph::GraphAnswer;
 use graph::Removed;
-use probe_text::tokens::MOST_TOKENS;
-use probe_text::values::entry;
+use probe_text::answers::Answer;
+use probe_text::parts::bytes;
+use probe_text::parts::entry;
 use probe_text::values::event;
 use probe_text::values::id;
 use probe_text::values::mask;
@@ -25,12 +26,9 @@ const REMOVE: usize = 4;
 
 const RETAIN: usize = 5;
 
-// The refusal number or 0, the count where the word tells one, and the log.
+// The answer, whether a refusal changed the log, and the log.
 pub struct Change {
-    pub refusal: usize,
-    pub counted: bool,
-    pub count: usize,
-    // A refusal changed the log.
+    pub answer: Answer,
     pub changed: bool,
     pub log: Log,
 }
@@ -77,9 +75,7 @@ fn turned(word: usize, log: Log, kinds: &[u8], values: &[usize]) -> Change {
 // A refusal that leaves the log that was there.
 fn unchanged(log: Log, refusal: usize) -> Change {
     Change {
-        refusal,
-        counted: false,
-        count: 0,
+        answer: Answer::Bare(refusal),
         changed: false,
         log,
     }
@@ -90,14 +86,12 @@ fn created(log: Log, a: GraphAnswer) -> Change {
     if a.refusal != ACCEPTED {
         return unchanged(log, a.refusal);
     }
-    accepted(false, 0, a.graph)
+    accepted(Answer::Bare(ACCEPTED), a.graph)
 }
 
-fn accepted(counted: bool, count: usize, graph: EventGraph) -> Change {
+fn accepted(answer: Answer, graph: EventGraph) -> Change {
     Change {
-        refusal: ACCEPTED,
-        counted,
-        count,
+        answer,
         changed: false,
         log: Log { made: true, graph },
     }
@@ -106,9 +100,7 @@ fn accepted(counted: bool, count: usize, graph: EventGraph) -> Change {
 // A refusal with the graph that it handed back.
 fn refused(before: EventGraph, refusal: usize, graph: EventGraph) -> Change {
     Change {
-        refusal,
-        counted: false,
-        count: 0,
+        answer: Answer::Bare(refusal),
         changed: differ(before, graph),
         log: Log { made: true, graph },
     }
@@ -118,24 +110,20 @@ fn appended(before: EventGraph, a: GraphAnswer) -> Change {
     if a.refusal != ACCEPTED {
         return refused(before, a.refusal, a.graph);
     }
-    accepted(false, 0, a.graph)
+    accepted(Answer::Bare(ACCEPTED), a.graph)
 }
 
 fn removed(before: EventGraph, a: Removed) -> Change {
     if a.refusal != ACCEPTED {
         return refused(before, a.refusal, a.graph);
     }
-    accepted(true, a.count, a.graph)
+    accepted(Answer::Number(a.count), a.graph)
 }
 
 // `g.retain M`
 fn retained(g: EventGraph, values: &[usize]) -> Change {
-    let bytes = mask(values);
-    let n = values.len();
-    if MOST_TOKENS < n {
-        return refused(g, BAD_LINE, g);
-    }
-    removed(g, g.retain(&bytes[0..n]))
+    let keep = mask(values);
+    removed(g, g.retain(bytes(&keep, 0, values.len())))
 }
 
 // Whether two graphs tell another number of events, another named or other roots.

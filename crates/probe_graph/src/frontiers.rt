@@ -33,7 +33,7 @@ fn named(g: EventGraph) -> FrontierFound {
 // The frontier that was found, that there is none, or the refusal number.
 pub fn told(f: FrontierFound, out: &mut [u8], at: usize) -> usize {
     if is_absent(f) {
-        return answers::told(out, at, Answer::Absent);
+        return answers::told(out, at, Answer::Absent, false);
     }
     answers::frontier(out, at, f.refusal, f.frontier)
 }

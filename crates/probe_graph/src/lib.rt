@@ -45,9 +45,10 @@ pub fn answer(
         };
     }
     let c = changes::called(word, log, kinds, values);
+    let answer = c.answer;
     let log = c.log;
     Logged {
-        at: answers::changed(out, at, c.refusal, c.counted, c.count, c.changed),
+        at: answers::told(out, at, answer, c.changed),
         log,
     }
 }
@@ -74,5 +75,5 @@ fn asked(
     if word != NO_ROW {
         return frontiers::told(frontiers::called(word, g, values), out, at);
     }
-    answers::told(out, at, asks::asked(g, line, kinds, values))
+    answers::told(out, at, asks::asked(g, line, kinds, values), false)
 }

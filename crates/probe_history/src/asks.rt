@@ -6,7 +6,7 @@ use history::event_history::EventHistory;
 use history::event_history::Found;
 use probe_text::answers::Answer;
 use probe_text::answers::yes_no;
-use probe_text::values::entry;
+use probe_text::parts::entry;
 use probe_text::values::id;
 use probe_text::words::row;
 

@@ -7,8 +7,9 @@ use history::event_history::EventHistory;
 use history::event_history::HistoryAnswer;
 use history::event_history::PruneAnswer;
 use history::event_history::Removed;
-use probe_text::tokens::MOST_TOKENS;
-use probe_text::values::entry;
+use probe_text::answers::Answer;
+use probe_text::parts::bytes;
+use probe_text::parts::entry;
 use probe_text::values::event;
 use probe_text::values::id;
 use probe_text::values::mask;
@@ -25,12 +26,10 @@ const REMOVE: usize = 3;
 
 const RETAIN: usize = 4;
 
-// The refusal number or 0, the count where the word tells one, and the history.
+// The answer, whether it is a refusal, whether that handed back another number of events, and the history.
 pub struct Change {
-    pub refusal: usize,
-    pub counted: bool,
-    pub count: usize,
-    // A refusal handed back another number of events.
+    pub answer: Answer,
+    pub refused: bool,
     pub changed: bool,
     pub traces: Traces,
 }
@@ -92,19 +91,17 @@ fn retained(
     versions: &[Seq; 8192],
     boundaries: &mut [Seq; 256],
 ) -> Change {
-    let bytes = mask(values);
-    let n = values.len();
-    if MOST_TOKENS < n {
-        return refused(h, BAD_LINE, h);
-    }
-    pruned(h, h.retain(&bytes[0..n], versions, boundaries))
+    let keep = mask(values);
+    pruned(
+        h,
+        h.retain(bytes(&keep, 0, values.len()), versions, boundaries),
+    )
 }
 
 fn unchanged(t: Traces, refusal: usize) -> Change {
     Change {
-        refusal,
-        counted: false,
-        count: 0,
+        answer: Answer::Bare(refusal),
+        refused: true,
         changed: false,
         traces: t,
     }
@@ -115,14 +112,13 @@ fn created(t: Traces, a: HistoryAnswer) -> Change {
     if a.refusal != ACCEPTED {
         return unchanged(t, a.refusal);
     }
-    accepted(false, 0, a.history)
+    accepted(Answer::Bare(ACCEPTED), a.history)
 }
 
-fn accepted(counted: bool, count: usize, history: EventHistory) -> Change {
+fn accepted(answer: Answer, history: EventHistory) -> Change {
     Change {
-        refusal: ACCEPTED,
-        counted,
-        count,
+        answer,
+        refused: false,
         changed: false,
         traces: Traces {
             made: true,
@@ -134,9 +130,8 @@ fn accepted(counted: bool, count: usize, history: EventHistory) -> Change {
 // A refusal with the history that it handed back.
 fn refused(before: EventHistory, refusal: usize, history: EventHistory) -> Change {
     Change {
-        refusal,
-        counted: false,
-        count: 0,
+        answer: Answer::Bare(refusal),
+        refused: true,
         changed: before.len() != history.len(),
         traces: Traces {
             made: true,
@@ -149,16 +144,16 @@ fn appended(before: EventHistory, a: HistoryAnswer) -> Change {
     if a.refusal != ACCEPTED {
         return refused(before, a.refusal, a.history);
     }
-    accepted(false, 0, a.history)
+    accepted(Answer::Bare(ACCEPTED), a.history)
 }
 
 fn pruned(before: EventHistory, a: PruneAnswer) -> Change {
     if a.refusal != ACCEPTED {
         return refused(before, a.refusal, a.history);
     }
-    accepted(true, a.count, a.history)
+    accepted(Answer::Number(a.count), a.history)
 }
 
 fn removed(a: Removed) -> Change {
-    accepted(true, a.count, a.history)
+    accepted(Answer::Number(a.count), a.history)
 }

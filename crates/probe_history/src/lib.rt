@@ -4,7 +4,6 @@ mod changes;
 mod lists;
 mod rows;
 
-use clocks::refusal::ACCEPTED;
 use clocks::refusal::BAD_LINE;
 use clocks::vector::Seq;
 use history::event_history::EventHistory;
@@ -88,22 +87,24 @@ fn changed(
     let before = tables_digest(versions, notes, boundaries);
     let c = changes::called(word, t, kinds, values, versions, notes, boundaries);
     let after = tables_digest(versions, notes, boundaries);
-    let is_changed = is_changed(c.refusal, c.changed, before == after);
+    let answer = c.answer;
     let traces = c.traces;
     Traced {
-        at: answers::changed(out, at, c.refusal, c.counted, c.count, is_changed),
+        at: answers::told(
+            out,
+            at,
+            answer,
+            is_changed(c.refused, c.changed, before == after),
+        ),
         traces,
     }
 }
 
-fn is_changed(refusal: usize, changed: bool, same_tables: bool) -> bool {
-    if refusal == ACCEPTED {
-        return false;
+fn is_changed(refused: bool, changed: bool, same_tables: bool) -> bool {
+    if same_tables {
+        return changed;
     }
-    if changed {
-        return true;
-    }
-    !same_tables
+    refused
 }
 
 // The words that leave the history as it is.
@@ -140,15 +141,9 @@ fn asked<'a>(
     }
     let word = rows::word(line, kinds, values);
     if word != NO_ROW {
-        return answers::row(
-            out,
-            at,
-            rows::called(word, h, kinds, values, versions, notes, boundaries),
-        );
+        let row = rows::called(word, h, kinds, values, versions, notes, boundaries);
+        return answers::vector(out, at, row, row.len());
     }
-    answers::told(
-        out,
-        at,
-        asks::asked(h, line, kinds, values, versions, notes),
-    )
+    let answer = asks::asked(h, line, kinds, values, versions, notes);
+    answers::told(out, at, answer, false)
 }

@@ -11,7 +11,7 @@ use probe_text::lent::PATTERN;
 use probe_text::lent::count;
 use probe_text::lent::is_kept;
 use probe_text::lent::refusal;
-use probe_text::values::entry;
+use probe_text::parts::entry;
 use probe_text::values::id;
 use probe_text::words::row;
 

@@ -2,7 +2,7 @@
 use clocks::replica::ReplicaIdx;
 use clocks::vector::Seq;
 use history::event_history::EventHistory;
-use probe_text::values::entry;
+use probe_text::parts::entry;
 use probe_text::values::id;
 use probe_text::words::row;
 

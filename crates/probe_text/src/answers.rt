@@ -1,5 +1,5 @@
 // Answer lines, put into the output buffer. Each function hands back the place behind what it wrote.
-use crate::values::entry;
+use crate::parts::entry;
 use crate::values::wide;
 use clocks::causal_frontier::CausalFrontier;
 use clocks::id::Disambiguator;
@@ -7,7 +7,6 @@ use clocks::id::EventId;
 use clocks::refusal::ACCEPTED;
 use clocks::tagged_op::TaggedOp;
 use clocks::vector::Comparison;
-use clocks::vector::DESKS;
 use text::bytes::put;
 use text::number::write_number;
 
@@ -102,18 +101,6 @@ fn rest(out: &mut [u8], at: usize, a: Answer) -> usize {
     }
 }
 
-// A whole line.
-pub fn told(out: &mut [u8], at: usize, a: Answer) -> usize {
-    let at = bare(out, at, first(a));
-    let at = rest(out, at, a);
-    byte(out, at, b'\n')
-}
-
-// A whole line with a refusal number alone.
-pub fn refused(out: &mut [u8], at: usize, n: usize) -> usize {
-    told(out, at, Answer::Bare(n))
-}
-
 // The line's end, and before it whether anything changed where nothing may.
 pub fn ended(out: &mut [u8], at: usize, is_changed: bool) -> usize {
     if is_changed {
@@ -122,39 +109,34 @@ pub fn ended(out: &mut [u8], at: usize, is_changed: bool) -> usize {
     byte(out, at, b'\n')
 }
 
-// A whole line: what a change was refused with, the count of what it took where one is told, and whether a refusal changed anything.
-pub fn changed(
-    out: &mut [u8],
-    at: usize,
-    refusal: usize,
-    counted: bool,
-    count: usize,
-    is_changed: bool,
-) -> usize {
-    let at = bare(out, at, refusal);
-    if counted {
-        let at = spaced(out, at, count);
-        return ended(out, at, is_changed);
-    }
+// A whole line.
+pub fn told(out: &mut [u8], at: usize, a: Answer, is_changed: bool) -> usize {
+    let at = bare(out, at, first(a));
+    let at = rest(out, at, a);
     ended(out, at, is_changed)
 }
 
-// Numbers, each after a space.
-fn numbers(out: &mut [u8], at: usize, row: &[usize]) -> usize {
+// A whole line with a refusal number or 0 alone.
+pub fn refused(out: &mut [u8], at: usize, n: usize) -> usize {
+    told(out, at, Answer::Bare(n), false)
+}
+
+// So many numbers, each after a space.
+fn numbers(out: &mut [u8], at: usize, row: &[usize], n: usize) -> usize {
     let mut at = at;
-    for i in 0..row.len() {
+    for i in 0..n {
         at = spaced(out, at, entry(row, i));
     }
     at
 }
 
-// A whole line: 0 and a vector, or that there is none.
-pub fn row(out: &mut [u8], at: usize, row: &[usize]) -> usize {
-    if row.len() == 0 {
-        return told(out, at, Answer::Absent);
+// A whole line: 0 and a vector of so many numbers, or that there is none.
+pub fn vector(out: &mut [u8], at: usize, row: &[usize], n: usize) -> usize {
+    if n == 0 {
+        return told(out, at, Answer::Absent, false);
     }
     let at = bare(out, at, ACCEPTED);
-    let at = numbers(out, at, row);
+    let at = numbers(out, at, row, n);
     byte(out, at, b'\n')
 }
 
@@ -164,9 +146,5 @@ pub fn frontier(out: &mut [u8], at: usize, refusal: usize, f: CausalFrontier) ->
         return refused(out, at, refusal);
     }
     let entries = f.entries();
-    let n = f.len();
-    if DESKS < n {
-        return at;
-    }
-    row(out, at, &entries[0..n])
+    vector(out, at, &entries, f.len())
 }

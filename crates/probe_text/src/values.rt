@@ -1,39 +1,14 @@
 // What the tokens of a line stand for, once its row is known.
+use crate::parts::entry;
+use crate::parts::part;
 use crate::tokens::NUMBER;
+use crate::words::TOP_TAG;
 use crate::words::behind_numbers;
 use clocks::event::Event;
 use clocks::id::Disambiguator;
 use clocks::id::EventId;
 use clocks::replica::ReplicaIdx;
-use clocks::vector::TOP;
 use text::bytes::byte_at;
-
-// An entry; 0 past the end.
-pub fn entry(list: &[usize], i: usize) -> usize {
-    if i < list.len() { list[i] } else { 0 }
-}
-
-// The numbers between two places; none where they are past the end.
-pub fn part(values: &[usize], from: usize, to: usize) -> &[usize] {
-    if to < from {
-        return &values[0..0];
-    }
-    if values.len() < to {
-        return &values[0..0];
-    }
-    &values[from..to]
-}
-
-// The bytes between two places; none where they are past the end.
-pub fn bytes(s: &[u8], from: usize, to: usize) -> &[u8] {
-    if to < from {
-        return &s[0..0];
-    }
-    if s.len() < to {
-        return &s[0..0];
-    }
-    &s[from..to]
-}
 
 // The vector from a place on, up to the bar or the end.
 pub fn vector<'a>(kinds: &[u8], values: &'a [usize], from: usize) -> &'a [usize] {
@@ -49,7 +24,7 @@ pub fn wide(n: usize) -> u64 {
 }
 
 fn number_tag(n: usize) -> Disambiguator {
-    if TOP < n {
+    if TOP_TAG < n {
         return Disambiguator::Absent;
     }
     Disambiguator::Number(n as u32)

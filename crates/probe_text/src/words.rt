@@ -6,16 +6,18 @@
 //     v   a vector: 1 to 16 numbers
 //     m   a mask: any count of numbers below 256
 //     |   the bar
+use crate::parts::bytes;
+use crate::parts::entry;
+use crate::parts::place_of;
 use crate::tokens::BAR;
 use crate::tokens::DASH;
 use crate::tokens::NUMBER;
-use crate::tokens::word_end;
-use crate::values::bytes;
-use crate::values::entry;
 use clocks::vector::DESKS;
-use clocks::vector::TOP;
 use text::bytes::byte_at;
 use text::bytes::same;
+
+// The highest number that tells the pieces of a note apart.
+pub const TOP_TAG: usize = 4_294_967_295;
 
 // What is found where no row fits. No table has so many.
 pub const NO_ROW: usize = 255;
@@ -37,7 +39,7 @@ fn behind_one(kinds: &[u8], at: usize, kind: u8) -> usize {
 
 // The place behind an id's third token.
 fn behind_tag(kinds: &[u8], values: &[usize], at: usize) -> usize {
-    if entry(values, at) <= TOP {
+    if entry(values, at) <= TOP_TAG {
         if byte_at(kinds, at) == NUMBER {
             return next(at);
         }
@@ -100,25 +102,13 @@ fn fits(table: &[u8], from: usize, to: usize, kinds: &[u8], values: &[usize]) ->
     at == kinds.len()
 }
 
-// Where this byte stands next; the table's end where it does not.
-fn place_of(table: &[u8], from: usize, mark: u8) -> usize {
-    let mut i = from;
-    while i < table.len() {
-        if table[i] == mark {
-            return i;
-        }
-        i += 1;
-    }
-    i
-}
-
 fn of_row(number: usize, is_fit: bool) -> usize {
     if is_fit { number } else { NO_ROW }
 }
 
 // The number of the row that a line is of.
 pub fn row(table: &[u8], line: &[u8], kinds: &[u8], values: &[usize]) -> usize {
-    let word = bytes(line, 0, word_end(line));
+    let word = bytes(line, 0, place_of(line, 0, b' '));
     let mut from: usize = 0;
     let mut number: usize = 0;
     while number < NO_ROW {

@@ -1,98 +1,72 @@
+-- The turns are counted down. The buffers keep their lengths.
+use mathlib.Core.Path.{_≡_}
+use lib.ListN.{length}
+use borrow.Author.Needs.{needs}
 use Rattle.probe.proofs.run.Statement.{statement}
 use Rattle.probe.proofs.run.Tie as tie
-use Rattle.probe.proofs.run.Reads as reads
-use Rattle.probe.proofs.run.Lts as lts
-use Rattle.probe.proofs.advanced.Reads as advanced-reads
-use Rattle.probe.proofs.answered.Reads as answered-reads
-use Rattle.probe.proofs.flush.Reads as flush-reads
-use Rattle.probe.proofs.state.State.moved.Reads as moved-reads
-use Rattle.probe.proofs.state.State.new.Reads as new-reads
-use Rattle.probe.proofs.written.Reads as written-reads
-use Rattle.text.proofs.lines.fresh.Reads as fresh-reads
 
 abbrev Inv-loop : tie.InvT-loop
-Inv-loop input₀ line₀ out₀ versions₀ notes₀ boundaries₀ st₀ r₀ turns₀ input line out versions notes boundaries st r turns =
-    ?
+Inv-loop input₀ line₀ out₀ versions₀ notes₀ boundaries₀ st₀ r₀ turns₀ input line out versions notes boundaries st r turns = (length input ≡ length input₀) × (length line ≡ length line₀) × (length out ≡ length out₀)
 
 abbrev μ-loop : tie.MeasureT-loop
-μ-loop input₀ line₀ out₀ versions₀ notes₀ boundaries₀ st₀ r₀ turns₀ input line out versions notes boundaries st r turns =
-    ?
+μ-loop input₀ line₀ out₀ versions₀ notes₀ boundaries₀ st₀ r₀ turns₀ input line out versions notes boundaries st r turns = turns
 
--- src/main.rt:136:9
 new-requires : tie.Need-new-requires Inv-loop μ-loop
-new-requires c κs = ?
+new-requires c κs = tt
 
--- src/main.rt:140:15
 fresh-requires : tie.Need-fresh-requires Inv-loop μ-loop
-fresh-requires c κs = ?
+fresh-requires c κs = tt
 
--- src/main.rt:145:5
 loop-holds : tie.Need-loop-holds Inv-loop μ-loop
-loop-holds c = ?
+loop-holds c = search needs
 
--- src/main.rt:146:23
 written-requires : tie.Need-written-requires Inv-loop μ-loop
-written-requires c κs = ?
+written-requires c κs = tt
 
--- src/main.rt:146:9
 moved-requires : tie.Need-moved-requires Inv-loop μ-loop
-moved-requires c κs = ?
+moved-requires c κs = tt
 
--- src/main.rt:147:9
 advanced-requires : tie.Need-advanced-requires Inv-loop μ-loop
-advanced-requires c κs = ?
+advanced-requires c κs = tt
 
--- src/main.rt:149:13
 answered-requires : tie.Need-answered-requires Inv-loop μ-loop
-answered-requires c κs = ?
+answered-requires c κs = tt
 
--- src/main.rt:152:13
 flush-requires : tie.Need-flush-requires Inv-loop μ-loop
-flush-requires c κs = ?
+flush-requires c κs = tt
 
--- src/main.rt:153:13
 same-length : tie.Need-same-length Inv-loop μ-loop
-same-length c = ?
+same-length c = search needs
 
--- src/main.rt:153:13
 same-length-2 : tie.Need-same-length-2 Inv-loop μ-loop
-same-length-2 c = ?
+same-length-2 c = search needs
 
--- src/main.rt:153:13
 same-length-3 : tie.Need-same-length-3 Inv-loop μ-loop
-same-length-3 c = ?
+same-length-3 c = search needs
 
--- src/main.rt:153:13
 returns : tie.Need-returns Inv-loop μ-loop
-returns c = ?
+returns c = search needs
 
--- src/main.rt:155:9
 sub-turns : tie.Need-sub-turns Inv-loop μ-loop
-sub-turns c = ?
+sub-turns c = search needs
 
--- src/main.rt:145:5
 loop-less : tie.Need-loop-less Inv-loop μ-loop
-loop-less c = ?
+loop-less c = search needs
 
--- src/main.rt:145:5
 loop-again : tie.Need-loop-again Inv-loop μ-loop
-loop-again c = ?
+loop-again c = search needs
 
--- src/main.rt:128:1
 same-length-4 : tie.Need-same-length-4 Inv-loop μ-loop
-same-length-4 c = ?
+same-length-4 c = search needs
 
--- src/main.rt:128:1
 same-length-5 : tie.Need-same-length-5 Inv-loop μ-loop
-same-length-5 c = ?
+same-length-5 c = search needs
 
--- src/main.rt:128:1
 same-length-6 : tie.Need-same-length-6 Inv-loop μ-loop
-same-length-6 c = ?
+same-length-6 c = search needs
 
--- src/main.rt:128:1
 returns-2 : tie.Need-returns-2 Inv-loop μ-loop
-returns-2 c = ?
+returns-2 c = search needs
 
 pub run-spec : {M : Type 1} → statement M
 run-spec =

@@ -7,10 +7,10 @@ use Rattle.probe_text.proofs.answers.numbers.Statement.{statement}
 use Rattle.probe_text.proofs.answers.numbers.Tie as tie
 
 abbrev Inv-loop : tie.InvT-loop
-Inv-loop out₀ at row at₀ i₀ i-end out at' i = (i ≤ i-end) × (length out ≡ length out₀)
+Inv-loop out₀ at row n at₀ i₀ out at' i = (i ≤ n) × (length out ≡ length out₀)
 
 abbrev μ-loop : tie.MeasureT-loop
-μ-loop out₀ at row at₀ i₀ i-end out at' i = i-end - i
+μ-loop out₀ at row n at₀ i₀ out at' i = n - i
 
 loop-holds : tie.Need-loop-holds Inv-loop μ-loop
 loop-holds c = search needs

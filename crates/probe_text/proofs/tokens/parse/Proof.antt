@@ -10,8 +10,8 @@ Inv-loop line kinds₀ values₀ at₀ n₀ kinds values at n = Unit {0}
 abbrev μ-loop : tie.MeasureT-loop
 μ-loop line kinds₀ values₀ at₀ n₀ kinds values at n = 2048 - n
 
-word-end-requires : tie.Need-word-end-requires Inv-loop μ-loop
-word-end-requires c κs = tt
+place-of-requires : tie.Need-place-of-requires Inv-loop μ-loop
+place-of-requires c κs = tt
 
 loop-holds : tie.Need-loop-holds Inv-loop μ-loop
 loop-holds c = tt
@@ -21,15 +21,6 @@ returns c = search needs
 
 spaced-token-requires : tie.Need-spaced-token-requires Inv-loop μ-loop
 spaced-token-requires c κs = tt
-
-enum-known-t : tie.Need-enum-known-t Inv-loop μ-loop
-enum-known-t c = search needs
-
-enum-told : tie.Need-enum-told Inv-loop μ-loop
-enum-told c = search needs
-
-returns-2 : tie.Need-returns-2 Inv-loop μ-loop
-returns-2 c = search needs
 
 element-write-kinds : tie.Need-element-write-kinds Inv-loop μ-loop
 element-write-kinds c = search needs
@@ -49,8 +40,8 @@ loop-less c = search needs
 loop-again : tie.Need-loop-again Inv-loop μ-loop
 loop-again c = tt
 
-returns-3 : tie.Need-returns-3 Inv-loop μ-loop
-returns-3 c = search needs
+returns-2 : tie.Need-returns-2 Inv-loop μ-loop
+returns-2 c = search needs
 
 pub parse-spec : {M : Type 1} → statement M
 parse-spec =
@@ -58,17 +49,14 @@ parse-spec =
     (tie.spec
     Inv-loop
     μ-loop
-    word-end-requires
+    place-of-requires
     loop-holds
     returns
     spaced-token-requires
-    enum-known-t
-    enum-told
-    returns-2
     element-write-kinds
     mul-values
     element-write-values
     add-n
     loop-less
     loop-again
-    returns-3)
+    returns-2)

@@ -10,8 +10,8 @@ Inv-loop table line kinds values word from₀ number₀ from number = Unit {0}
 abbrev μ-loop : tie.MeasureT-loop
 μ-loop table line kinds values word from₀ number₀ from number = 255 - number
 
-word-end-requires : tie.Need-word-end-requires Inv-loop μ-loop
-word-end-requires c κs = tt
+place-of-requires : tie.Need-place-of-requires Inv-loop μ-loop
+place-of-requires c κs = tt
 
 bytes-requires : tie.Need-bytes-requires Inv-loop μ-loop
 bytes-requires c κs = tt
@@ -22,11 +22,11 @@ loop-holds c = tt
 returns : tie.Need-returns Inv-loop μ-loop
 returns c = search needs
 
-place-of-requires : tie.Need-place-of-requires Inv-loop μ-loop
-place-of-requires c κs = tt
-
 place-of-requires-2 : tie.Need-place-of-requires-2 Inv-loop μ-loop
 place-of-requires-2 c κs = tt
+
+place-of-requires-3 : tie.Need-place-of-requires-3 Inv-loop μ-loop
+place-of-requires-3 c κs = tt
 
 bytes-requires-2 : tie.Need-bytes-requires-2 Inv-loop μ-loop
 bytes-requires-2 c κs = tt
@@ -67,12 +67,12 @@ row-spec =
     (tie.spec
     Inv-loop
     μ-loop
-    word-end-requires
+    place-of-requires
     bytes-requires
     loop-holds
     returns
-    place-of-requires
     place-of-requires-2
+    place-of-requires-3
     bytes-requires-2
     same-requires
     next-requires

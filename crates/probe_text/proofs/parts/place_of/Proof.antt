@@ -2,14 +2,14 @@
 use Prim.Native.Nat.{_-_}
 use lib.ListN.{length}
 use borrow.Author.Needs.{needs}
-use Rattle.probe_text.proofs.words.place_of.Statement.{statement}
-use Rattle.probe_text.proofs.words.place_of.Tie as tie
+use Rattle.probe_text.proofs.parts.place_of.Statement.{statement}
+use Rattle.probe_text.proofs.parts.place_of.Tie as tie
 
 abbrev Inv-loop : tie.InvT-loop
-Inv-loop table from mark i₀ i = Unit {0}
+Inv-loop s from mark i₀ i = Unit {0}
 
 abbrev μ-loop : tie.MeasureT-loop
-μ-loop table from mark i₀ i = length table - i
+μ-loop s from mark i₀ i = length s - i
 
 loop-holds : tie.Need-loop-holds Inv-loop μ-loop
 loop-holds c = tt
