@@ -6,22 +6,34 @@ use Rattle.probe.proofs.run.Statement.{statement}
 use Rattle.probe.proofs.run.Tie as tie
 
 abbrev Inv-loop : tie.InvT-loop
-Inv-loop input₀ line₀ out₀ versions₀ notes₀ boundaries₀ p₀ turns₀ input line out versions notes boundaries p turns = (length input ≡ length input₀) × (length line ≡ length line₀) × (length out ≡ length out₀)
+Inv-loop input₀ line₀ out₀ versions₀ notes₀ boundaries₀ st₀ r₀ turns₀ input line out versions notes boundaries st r turns = (length input ≡ length input₀) × (length line ≡ length line₀) × (length out ≡ length out₀)
 
 abbrev μ-loop : tie.MeasureT-loop
-μ-loop input₀ line₀ out₀ versions₀ notes₀ boundaries₀ p₀ turns₀ input line out versions notes boundaries p turns = turns
-
-fresh-requires : tie.Need-fresh-requires Inv-loop μ-loop
-fresh-requires c κs = tt
+μ-loop input₀ line₀ out₀ versions₀ notes₀ boundaries₀ st₀ r₀ turns₀ input line out versions notes boundaries st r turns = turns
 
 new-requires : tie.Need-new-requires Inv-loop μ-loop
 new-requires c κs = tt
 
+fresh-requires : tie.Need-fresh-requires Inv-loop μ-loop
+fresh-requires c κs = tt
+
 loop-holds : tie.Need-loop-holds Inv-loop μ-loop
 loop-holds c = search needs
 
-turn-requires : tie.Need-turn-requires Inv-loop μ-loop
-turn-requires c κs = tt
+written-requires : tie.Need-written-requires Inv-loop μ-loop
+written-requires c κs = tt
+
+moved-requires : tie.Need-moved-requires Inv-loop μ-loop
+moved-requires c κs = tt
+
+advanced-requires : tie.Need-advanced-requires Inv-loop μ-loop
+advanced-requires c κs = tt
+
+answered-requires : tie.Need-answered-requires Inv-loop μ-loop
+answered-requires c κs = tt
+
+flush-requires : tie.Need-flush-requires Inv-loop μ-loop
+flush-requires c κs = tt
 
 same-length : tie.Need-same-length Inv-loop μ-loop
 same-length c = search needs
@@ -62,10 +74,14 @@ run-spec =
     (tie.spec
     Inv-loop
     μ-loop
-    fresh-requires
     new-requires
+    fresh-requires
     loop-holds
-    turn-requires
+    written-requires
+    moved-requires
+    advanced-requires
+    answered-requires
+    flush-requires
     same-length
     same-length-2
     same-length-3
