@@ -8,6 +8,12 @@ use state::State;
 use state::answer;
 use text::lines::Held;
 
+// A piece of the input, and the answers to it.
+type Piece = [u8; 65_536];
+
+// A line may have 4,096 bytes before its newline.
+type Line = [u8; 4096];
+
 // An answer has room: a list of 512 events takes 67 bytes each at most.
 const LONGEST_ANSWER: usize = 40_960;
 
@@ -35,7 +41,7 @@ fn has_room(out: &[u8], at: usize) -> bool {
 }
 
 // What is collected is written where the longest answer has no room behind it, and before each read, so a driver that waits for answers gets them.
-fn written(r: Reading, out: &[u8], at: usize) -> usize {
+fn written(r: Reading, out: &Piece, at: usize) -> usize {
     if r.at < r.end {
         if has_room(out, at) {
             return at;
@@ -65,13 +71,13 @@ fn is_last(end: usize, held: Held) -> bool {
 }
 
 // How many bytes one read put at the buffer's start; 0 at the end of the input, or where the read failed.
-fn read_some(input: &mut [u8]) -> usize {
+fn read_some(input: &mut Piece) -> usize {
     let got = libc::read(0, input);
     io::count(got, input)
 }
 
 // The next piece of the input.
-fn refilled(r: Reading, input: &mut [u8]) -> Reading {
+fn refilled(r: Reading, input: &mut Piece) -> Reading {
     let held = current(r);
     let end = read_some(input);
     Reading {
@@ -84,7 +90,7 @@ fn refilled(r: Reading, input: &mut [u8]) -> Reading {
 }
 
 // The next part of the line.
-fn fed(r: Reading, input: &[u8], line: &mut [u8]) -> Reading {
+fn fed(r: Reading, input: &Piece, line: &mut Line) -> Reading {
     let piece = bytes(input, 0, r.end);
     let taken = text::lines::feed(line, current(r), piece, r.at);
     let held = taken.held;
@@ -97,7 +103,7 @@ fn fed(r: Reading, input: &[u8], line: &mut [u8]) -> Reading {
     }
 }
 
-fn advanced(r: Reading, input: &mut [u8], line: &mut [u8]) -> Reading {
+fn advanced(r: Reading, input: &mut Piece, line: &mut Line) -> Reading {
     if r.at < r.end {
         return fed(r, input, line);
     }
@@ -105,7 +111,7 @@ fn advanced(r: Reading, input: &mut [u8], line: &mut [u8]) -> Reading {
 }
 
 // The line that is held. An overlong one is no line, as an empty one is none.
-fn text_of(held: Held, line: &[u8]) -> &[u8] {
+fn text_of(held: Held, line: &Line) -> &[u8] {
     if held.overlong {
         return bytes(line, 0, 0);
     }
@@ -114,9 +120,9 @@ fn text_of(held: Held, line: &[u8]) -> &[u8] {
 
 // A proved loop has to end, and nothing says that the input does: the turns are counted down from a number that no run uses up.
 fn run(
-    input: &mut [u8],
-    line: &mut [u8],
-    out: &mut [u8],
+    input: &mut Piece,
+    line: &mut Line,
+    out: &mut Piece,
     versions: &mut [Seq; 8192],
     notes: &mut [u64; 1536],
     boundaries: &mut [Seq; 256],

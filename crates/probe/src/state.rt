@@ -97,7 +97,7 @@ fn room(st: State, line: &[u8], kinds: &[u8], values: &[usize], out: &mut [u8]) 
 pub fn answer(
     st: State,
     line: &[u8],
-    out: &mut [u8],
+    out: &mut [u8; 65_536],
     versions: &mut [Seq; 8192],
     notes: &mut [u64; 1536],
     boundaries: &mut [Seq; 256],
@@ -115,7 +115,7 @@ fn by_word(
     line: &[u8],
     kinds: &[u8],
     values: &[usize],
-    out: &mut [u8],
+    out: &mut [u8; 65_536],
     versions: &mut [Seq; 8192],
     notes: &mut [u64; 1536],
     boundaries: &mut [Seq; 256],

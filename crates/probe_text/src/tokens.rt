@@ -72,12 +72,15 @@ fn spaced_token(line: &[u8], at: usize) -> Token {
     no_token(line)
 }
 
-// How many tokens stand behind the line's word.
-pub fn parse(line: &[u8], kinds: &mut [u8; 2048], values: &mut [usize; 2048]) -> usize {
+// How many tokens stand behind the line's word, as far as the tables have room.
+pub fn parse(line: &[u8], kinds: &mut [u8], values: &mut [usize]) -> usize {
     let mut at = find_byte(line, 0, b' ');
     let mut n: usize = 0;
-    while n < MOST_TOKENS {
+    while n < kinds.len() {
         if line.len() <= at {
+            return n;
+        }
+        if values.len() <= n {
             return n;
         }
         let t = spaced_token(line, at);
