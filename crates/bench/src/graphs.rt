@@ -9,6 +9,8 @@ use graph::EventGraph;
 use graph::Found;
 use graph::Order;
 use graph::Told;
+use numbers::digit;
+use numbers::size;
 
 fn built(rows: &[usize], n: usize) -> EventGraph {
     let a = EventGraph::new(16);
@@ -19,10 +21,6 @@ fn built(rows: &[usize], n: usize) -> EventGraph {
         g = a.graph;
     }
     g
-}
-
-fn flag(b: bool) -> usize {
-    if b { 1 } else { 0 }
 }
 
 fn told(t: Told) -> usize {
@@ -68,7 +66,7 @@ pub extern "C" fn port_graph_greatest(
     let mut sum: usize = 0;
     for k in 0..rounds {
         let f = g.greatest_critical_frontier(version(asked(queries, k, m)));
-        sum = std::num::wrapping_add_usize(sum, flag(f.found));
+        sum = std::num::wrapping_add_usize(sum, size(digit(f.found)));
     }
     sum
 }
@@ -193,7 +191,7 @@ pub extern "C" fn port_graph_roots(rows: &[usize], n: usize, rounds: usize) -> u
     let mut sum: usize = 0;
     for k in 0..rounds {
         let f = g.roots();
-        sum = std::num::wrapping_add_usize(sum, flag(f.found));
+        sum = std::num::wrapping_add_usize(sum, size(digit(f.found)));
     }
     sum
 }

@@ -3,6 +3,8 @@ use clocks::event::Event;
 use clocks::id::EventId;
 use clocks::refusal::Listed;
 use clocks::replica::ReplicaIdx;
+use numbers::entry;
+use numbers::wide;
 
 const ROW: usize = 20;
 
@@ -31,16 +33,8 @@ pub fn desk(k: usize) -> ReplicaIdx {
     ReplicaIdx(k / 3 % 16)
 }
 
-fn entry(row: &[usize], i: usize) -> usize {
-    if i < row.len() { row[i] } else { 0 }
-}
-
 pub fn id(row: &[usize]) -> EventId {
     EventId::new(ReplicaIdx(entry(row, 0)), entry(row, 1))
-}
-
-fn wide(n: usize) -> u64 {
-    n as u64
 }
 
 pub fn event(row: &[usize]) -> Event {

@@ -2,7 +2,7 @@
 -- keeps a frontier well made; and well-made frontiers that compare equal are equal.
 use mathlib.Core.Bool.{true, false, false≢true}
 use mathlib.Core.List.{List}
-use mathlib.Core.Path.{_≡_, refl, sym, _∙_}
+use mathlib.Core.Path.{_≡_, refl, sym, ap, _∙_}
 use mathlib.Core.Logic.{⊎-elim}
 use Prim.Native.Nat.{ℕ, max, min, _<_, _≤_}
 use native.Mathlib.Nat.{max-le, le-max-left, le-max-right, min-le-left, min-le-right, le-min}
@@ -12,7 +12,7 @@ use lib.ListN.{length, getD, set, replicate, length-set}
 use lib.Seq.{ext-getD, getD-set-same, getD-set-other}
 use borrow.Author.Tests.{le-ltb, ltb-false, eq-eqb, ne-eqb}
 use Rattle.laws.specs.Lists.{tabulate}
-use Rattle.laws.proofs.Lists.{getD-zeros, tabulate-cong, getD-tabulate-all, length-tabulate}
+use Rattle.laws.proofs.Lists.{getD-zeros, tabulate-cong, getD-tabulate, getD-tabulate-all, length-tabulate}
 use Rattle.laws.proofs.Orders.{true-or-false}
 use Rattle.clocks.specs.Vectors.{top, desks, entry, wellFormed, covers, atMost, compared}
 use Rattle.clocks.specs.Frontiers.{FrontierOk, zeros, joinEntries, meetEntries, joined, met, isBadCount, newFrontier, fromEntries}
@@ -30,6 +30,15 @@ join-entry v w p q = getD-tabulate-all (λ i. max (entry v i) (entry w i)) desks
 pub meet-entry : (v w : List ℕ) → length v ≤ desks → length w ≤ desks → (i : ℕ) → entry (meetEntries v w) i ≡ min (entry v i) (entry w i)
 unfolding meetEntries
 meet-entry v w p q = getD-tabulate-all (λ i. min (entry v i) (entry w i)) desks (λ i l. rw (entry-out v i (omega arith), entry-out w i (omega arith)))
+
+-- of the sixteen entries no length is asked
+pub joined-at : (v w : List ℕ) {r : List ℕ} → r ≡ joinEntries v w → (i : ℕ) → i < desks → entry r i ≡ max (entry v i) (entry w i)
+unfolding joinEntries
+joined-at v w e i l = ap (λ (x : List ℕ). entry x i) e ∙ getD-tabulate (λ j. max (entry v j) (entry w j)) desks i l
+
+pub met-at : (v w : List ℕ) {r : List ℕ} → r ≡ meetEntries v w → (i : ℕ) → i < desks → entry r i ≡ min (entry v i) (entry w i)
+unfolding meetEntries
+met-at v w e i l = ap (λ (x : List ℕ). entry x i) e ∙ getD-tabulate (λ j. min (entry v j) (entry w j)) desks i l
 
 -- what is joined to zeros is itself
 pub join-zeros : (v : List ℕ) → joinEntries (replicate 16 0) v ≡ tabulate (entry v) desks

@@ -1,6 +1,5 @@
 // Carries over clock/causal_frontier.rs. A frontier holds R and an entry for each of sixteen desks; those at R and above stay 0.
 ghost use mathlib.Core.Path.{_≡_};
-ghost use Prim.Native.Nat.{max, min};
 ghost use lib.Dec.{eqb};
 ghost use lib.ListN.{set};
 ghost use Rattle.clocks.specs.Vectors.{entry, covers, compared, total};
@@ -19,6 +18,8 @@ use crate::vector::at_most;
 use crate::vector::compare;
 use crate::vector::seq_by_idx;
 use crate::vector::well_formed;
+use numbers::larger;
+use numbers::smaller;
 
 // A component-wise causal cut with no distinguished event origin.
 pub struct CausalFrontier {
@@ -33,19 +34,8 @@ pub struct FrontierAnswer {
     pub frontier: CausalFrontier,
 }
 
-fn larger(a: Seq, b: Seq) -> Seq
-    ensures { λ r. ⌜ r ≡ max a b ⌝ }
-{
-    if a < b { b } else { a }
-}
-
-fn smaller(a: Seq, b: Seq) -> Seq
-    ensures { λ r. ⌜ r ≡ min a b ⌝ }
-{
-    if b < a { b } else { a }
-}
-
-fn joined_entries(a: [Seq; 16], b: &[Seq]) -> [Seq; 16]
+// Entry by entry the greater of both.
+pub fn joined_entries(a: [Seq; 16], b: &[Seq]) -> [Seq; 16]
     ensures { λ r. ⌜ r ≡ joinEntries a (now (b .entry)) ⌝ }
 {
     let mut out = a;
@@ -55,7 +45,8 @@ fn joined_entries(a: [Seq; 16], b: &[Seq]) -> [Seq; 16]
     out
 }
 
-fn met_entries(a: [Seq; 16], b: &[Seq]) -> [Seq; 16]
+// Entry by entry the lesser of both.
+pub fn met_entries(a: [Seq; 16], b: &[Seq]) -> [Seq; 16]
     ensures { λ r. ⌜ r ≡ meetEntries a (now (b .entry)) ⌝ }
 {
     let mut out = a;
@@ -66,7 +57,7 @@ fn met_entries(a: [Seq; 16], b: &[Seq]) -> [Seq; 16]
 }
 
 // One entry changed; past the array nothing is.
-fn with_entry(entries: [Seq; 16], i: usize, value: Seq) -> [Seq; 16]
+pub fn with_entry(entries: [Seq; 16], i: usize, value: Seq) -> [Seq; 16]
     ensures { λ r. ⌜ r ≡ set entries i value ⌝ }
 {
     let mut out = entries;

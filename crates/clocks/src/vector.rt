@@ -32,8 +32,7 @@ pub fn is_bad_sequence(seq: Seq) -> bool
 pub fn seq_by_idx(v: &[Seq], idx: ReplicaIdx) -> Seq
     ensures { λ r. ⌜ r ≡ entry (now (v .entry)) (idx .0) ⌝ }
 {
-    let i = idx.0;
-    if i < v.len() { v[i] } else { 0 }
+    numbers::entry(v, idx.0)
 }
 
 // R long, and no entry above the top.

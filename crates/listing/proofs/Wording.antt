@@ -2,7 +2,7 @@
 use mathlib.Core.Bool.{Bool, true, false, false≢true}
 use mathlib.Core.List.{List, [], _∷_}
 use mathlib.Core.Logic.{⊎-elim}
-use mathlib.Core.Path.{_≡_, refl, sym, ap₂}
+use mathlib.Core.Path.{_≡_, refl, sym, ap, ap₂, _∙_}
 use Prim.Native.Nat.{ℕ, _≤_, _<_}
 use native.Mathlib.Decide.{ℕ-discrete}
 use native.Mathlib.Omega.{arith}
@@ -11,8 +11,9 @@ use lib.ListN.{length, getD, List·getD-eq-default}
 use borrow.Author.Tests.{eq-eqb, ne-eqb}
 use Rattle.laws.proofs.Orders.{le-or-lt, true-or-false}
 use Rattle.laws.specs.Counting.{pick}
+use Rattle.laws.specs.Lists.{written}
 use Rattle.text.specs.Bytes.{Same}
-use Rattle.listing.specs.Commands.{withNumber, withId, spacedNumber, spacedId, replicasLine, removeLine, sheetLine, nothing}
+use Rattle.listing.specs.Commands.{withNumber, withId, spacedNumber, spacedId, Told, nothing, replicasLine, removeLine, sheetLine, byWord, Tells}
 use Rattle.listing.specs.Words.{sameBytes}
 use Rattle.listing.specs.declared.command.Command.the-variants.{Replicas, Remove, Sheet}
 use Rattle.listing.specs.declared.command.Read.{Read}
@@ -49,11 +50,25 @@ same-told s t false h =
     ⊎-elim (λ (e : sameBytes s t ≡ true). absurd (false≢true (h .complete (same-sound s t e)))) (λ (e : sameBytes s t ≡ false). sym e)
     (true-or-false (sameBytes s t))
 
+pub unmet : (s t : List ℕ) {r : Bool} → Same s t r → r ≡ false → sameBytes s t ≡ false
+unmet s t h f = sym (same-told s t _ h) ∙ f
+
+-- what a line with the word w says, whatever its place among the seven: they differ, so where a comparison met w no earlier one is met too
+pub by-this : (told : ℕ → List ℕ → ℕ → Told) (room : ℕ) (s : List ℕ) {word w v v′ : List ℕ} {r : Bool} {a : Read}
+    → Same word w r → r ≡ true → byWord room s w ≡ told room s (length w) → Tells (told room s (length word)) v v′ a → Tells (byWord room s word) v v′ a
+by-this told room s {word} {w} m t e h =
+    let q = m .sound t in
+    let f : byWord room s word ≡ told room s (length word) = rw q e in
+    rw f h
+
+-- a line without a vector leaves the buffer
+pub tells-none : {told : Told} {a : Read} (v : List ℕ) → told .1 ≡ [] → a ≡ told .0 → Tells told v v a
+tells-none v n e = record { command = e; content = sym (ap (λ (l : List ℕ). written l v) n) }
+
 either : (t : Bool) (r : Read) → pick t (r, []) nothing .1 ≡ []
 either true r = refl
 either false r = refl
 
--- a line without a vector leaves the buffer
 pub replicas-none : (s : List ℕ) (at : ℕ) → replicasLine s at .1 ≡ []
 unfolding replicasLine
 replicas-none s at = by-number (spacedNumber s at)

@@ -9,8 +9,8 @@ use clocks::refusal::ACCEPTED;
 use clocks::vector::DESKS;
 use graph::FrontierFound;
 use graph::Told;
+use numbers::smaller;
 use text::bytes::put;
-use text::lines::least;
 use text::number::write_number;
 
 fn decimal(out: &mut [u8], at: usize, n: usize) -> usize
@@ -85,7 +85,7 @@ fn frontier_line(out: &mut [u8], at: usize, f: CausalFrontier) -> usize
     ensures { λ r. ⌜ Laid (now (out .entry)) at (lineOf (spelled 0) (take (f .len) (f .entries))) (now (out .exit)) r ⌝ }
 {
     let entries = f.entries();
-    let n = least(f.len(), DESKS);
+    let n = smaller(f.len(), DESKS);
     decimal_line(out, at, ACCEPTED, &entries[0..n])
 }
 

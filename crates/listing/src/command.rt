@@ -1,16 +1,16 @@
 // A line of the listing program, read into one of its seven commands. Document 01, The listing program.
 ghost use mathlib.Core.Path.{_≡_};
 ghost use lib.ListN.{length};
-ghost use Rattle.listing.specs.Words.{beforeSpace};
 ghost use Rattle.listing.specs.Commands.{Tells, replicasLine, removeLine, sheetLine, vectorLine, appendLine, byWord, lineTold};
 use crate::fields::Named;
 use crate::fields::Vector;
 use crate::fields::read_vector;
-use crate::fields::size;
 use crate::fields::spaced_id;
 use crate::fields::spaced_number;
 use clocks::id::EventId;
 use clocks::vector::Seq;
+use numbers::size;
+use text::bytes::find_byte;
 use text::bytes::same;
 use text::number::Number;
 
@@ -37,20 +37,6 @@ pub enum Command {
 pub enum Read {
     Line(Command),
     NoLine,
-}
-
-// Where the line's first word ends: at the first space, or at the line's end.
-fn word_end(line: &[u8]) -> usize
-    ensures { λ r. ⌜ r ≡ beforeSpace (now (line .entry)) ⌝ }
-{
-    let mut i: usize = 0;
-    while i < line.len() {
-        if line[i] == b' ' {
-            return i;
-        }
-        i += 1;
-    }
-    i
 }
 
 // replicas R
@@ -183,6 +169,7 @@ pub fn read_line(line: &[u8], vector: &mut [Seq]) -> Read
     if LONGEST_LINE < line.len() {
         return Read::NoLine;
     }
-    let end = word_end(line);
+    // Where the first word ends: at the first space, or at the line's end.
+    let end = find_byte(line, 0, b' ');
     by_word(line, &line[0..end], vector)
 }

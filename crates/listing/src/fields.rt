@@ -7,8 +7,9 @@ use clocks::id::Disambiguator;
 use clocks::id::EventId;
 use clocks::replica::ReplicaIdx;
 use clocks::vector::Seq;
+use numbers::size;
+use numbers::smaller;
 use text::bytes::byte_at;
-use text::lines::least;
 use text::number::Number;
 use text::number::read_number;
 
@@ -37,13 +38,6 @@ pub enum Vector {
 pub struct Run {
     pub count: usize,
     pub next: usize,
-}
-
-// A number that was read, as one of the log's.
-pub fn size(n: u64) -> usize
-    ensures { λ r. ⌜ r ≡ n ⌝ }
-{
-    n as usize
 }
 
 // The number behind a single space.
@@ -107,7 +101,7 @@ fn read_entries(s: &[u8], from: usize, out: &mut [Seq]) -> Run
     ensures { λ r. ⌜ r ≡ record { count = length (entries (most (length (now (out .entry)))) (now (s .entry)) from); next = entriesEnd (most (length (now (out .entry)))) (now (s .entry)) from } ⌝ }
     ensures { λ _. ⌜ now (out .exit) ≡ written (entries (most (length (now (out .entry)))) (now (s .entry)) from) (now (out .entry)) ⌝ }
 {
-    let limit = least(MOST_ENTRIES, out.len());
+    let limit = smaller(MOST_ENTRIES, out.len());
     let mut at = from;
     let mut n: usize = 0;
     while n < limit {

@@ -1,5 +1,5 @@
 -- Laws of the bits of a number: what the operators of the code do to each bit.
-use mathlib.Core.Bool.{and-true, or-false, Bool, true, false, _&&_, _||_, not}
+use mathlib.Core.Bool.{and-true, Bool, true, false, _&&_, _||_, not}
 use mathlib.Core.Logic.{⊎-elim}
 use mathlib.Core.Path.{_≡_, refl, sym, ap, ap₂, _∙_}
 use Prim.Native.Nat.{ℕ, zero, suc, _+_, _-_, _*_, _/_, _%_, _^_, _<_, _≤_, min, max}
@@ -7,14 +7,15 @@ use native.Mathlib.Nat.{one-mul, add-zero, add-suc, zero-mul, zero-mod, pow-suc,
 use native.Mathlib.Omega.{arith}
 use lib.Dec.{ltb, eqb, lit<, leb·suc-suc, eqb·suc-suc, eqb·suc-zero, eqb·zero-suc}
 use lib.Arith.{digits-mod, digits-div}
-use lib.Pow.{pow-pos, shl-exact, shl-shr}
+use lib.Pow.{pow-pos, shl-exact, shl-shr, high, low}
 use lib.Bits.{bitAnd, bitOr, and-step, or-step, and-mask, shifted-half, shifted-even}
 use lib.Count.{ones, ones-step, under, trailingZeros, trailing-le, leadingZeros, leading-top, leading-of-zero}
 use borrow.Author.Tests.{lt-ltb, le-ltb, not-true, not-false}
+use Rattle.numbers.specs.Words.{joinedWords}
 use Rattle.laws.specs.Counting.{one, countBelow}
-use Rattle.laws.proofs.Orders.{le-or-lt}
 use Rattle.laws.proofs.Counting.{count-first}
-use Rattle.positions.specs.Bits.{isOne, bit, LowZero, BitLength, LoweredWord}
+use Rattle.positions.specs.Bits.{isOne, bit}
+use Rattle.positions.specs.Inner.{LowZero, BitLength}
 
 -- a digit is 0 or 1
 mod2 : (n : ℕ) → n % 2 < 2
@@ -237,29 +238,18 @@ digit-law w zero k j p q = rw (zero-mul, zero-mod) (bit-or j w 0 ∙ rw bit-zero
 digit-law w (suc zero) k j p q = rw (shl-one k q) (bit-or j w (2 ^ k) ∙ rw bit-pow)
 digit-law w (suc (suc d)) k j p q = absurd (omega arith)
 
-pub lowered-law : (low high s : ℕ) → low < 2 ^ 64 → s < 64 → LoweredWord low high s (bitOr (low / 2 ^ s) ((high * 2 ^ 1 % 2 ^ 64 * 2 ^ (63 - s)) % 2 ^ 64))
-lowered-law low high s h q = record {
-  near = λ j l. both j ∙ rw (none j l) (or-false (bit low (j + s)));
-  far = λ j l m.
-      let out : bit low (j + s) ≡ false = bit-high (j + s) low 64 h m in
-      both j ∙ rw (out, lt-ltb j 64 l, up j l m) (and-true (bit high ((j + s) - 64)));
-}
-  where
-    one-up : ℕ
-    one-up = high * 2 ^ 1 % 2 ^ 64
+-- ---- the word that starts at bit s of two: its bits are those of the low word from s on, then those of the high one
+module _ (lo hi s j : ℕ) (l : lo < 2 ^ 64) where
+  from-both : j < 64 → bit (joinedWords lo hi s) j ≡ bit (hi * 2 ^ 64 + lo) (j + s)
+  unfolding joinedWords
+  from-both m = bit-mod 64 j ((hi * 2 ^ 64 + lo) / 2 ^ s) ∙ rw (lt-ltb j 64 m, bit-shr s j (hi * 2 ^ 64 + lo)) (and-true (bit (hi * 2 ^ 64 + lo) (j + s)))
 
-    both : (j : ℕ) → bit (bitOr (low / 2 ^ s) ((one-up * 2 ^ (63 - s)) % 2 ^ 64)) j ≡ (bit low (j + s) || (bit (one-up * 2 ^ (63 - s)) j && ltb j 64))
-    both j = bit-or j (low / 2 ^ s) ((one-up * 2 ^ (63 - s)) % 2 ^ 64) ∙ ap₂ (λ (x y : Bool). x || y) (bit-shr s j low) (bit-mod 64 j (one-up * 2 ^ (63 - s)))
+  pub joined-near : j + s < 64 → bit (joinedWords lo hi s) j ≡ bit lo (j + s)
+  joined-near m =
+      let e : bit (hi * 2 ^ 64 + lo) (j + s) ≡ bit lo (j + s) = sym (and-true (bit (hi * 2 ^ 64 + lo) (j + s))) ∙ rw (← lt-ltb (j + s) 64 m, ← bit-mod) (ap (λ (x : ℕ). bit x (j + s)) (low hi 64 l)) in
+      from-both (omega arith) ∙ e
 
-    -- the lowest bit that comes from `high` is none
-    none : (j : ℕ) → j + s < 64 → bit (one-up * 2 ^ (63 - s)) j ≡ false
-    none j l = ⊎-elim
-        (λ (p : 63 - s ≤ j). let e : j ≡ 0 + (63 - s) = omega arith in
-        ap (bit (one-up * 2 ^ (63 - s))) e ∙ bit-shl-high (63 - s) 0 one-up ∙ bit-mod 64 0 (high * 2 ^ 1) ∙ rw (bit-shl-low 1 0 high (omega arith)))
-        (λ (p : j < 63 - s). bit-shl-low (63 - s) j one-up p) (le-or-lt (63 - s) j)
-
-    up : (j : ℕ) → j < 64 → 64 ≤ j + s → bit (one-up * 2 ^ (63 - s)) j ≡ bit high ((j + s) - 64)
-    up j l m =
-        let e : j ≡ (((j + s) - 64) + 1) + (63 - s) = omega arith in
-        ap (bit (one-up * 2 ^ (63 - s))) e ∙ bit-shl-high (63 - s) (((j + s) - 64) + 1) one-up ∙ bit-mod 64 (((j + s) - 64) + 1) (high * 2 ^ 1)
-        ∙ rw (bit-shl-high 1 ((j + s) - 64) high, lt-ltb (((j + s) - 64) + 1) 64 (omega arith)) (and-true (bit high ((j + s) - 64)))
+  pub joined-far : j < 64 → 64 ≤ j + s → bit (joinedWords lo hi s) j ≡ bit hi ((j + s) - 64)
+  joined-far m o =
+      let e : j + s ≡ ((j + s) - 64) + 64 = omega arith in
+      from-both m ∙ ap (bit (hi * 2 ^ 64 + lo)) e ∙ sym (bit-shr 64 ((j + s) - 64) (hi * 2 ^ 64 + lo)) ∙ ap (λ (x : ℕ). bit x ((j + s) - 64)) (high hi 64 l)

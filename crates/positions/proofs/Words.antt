@@ -3,7 +3,7 @@ use mathlib.Core.Bool.{and-true, and-false, or-false, true≢false, Bool, true, 
 use mathlib.Core.Logic.{⊎-elim}
 use mathlib.Core.List.{[], _∷_}
 use mathlib.Core.Path.{_≡_, refl, sym, ap, ap₂, _∙_}
-use Prim.Native.Nat.{ℕ, zero, suc, _+_, _-_, _*_, _/_, _%_, _<_, _≤_}
+use Prim.Native.Nat.{ℕ, zero, suc, _+_, _-_, _*_, _/_, _%_, _^_, _<_, _≤_}
 use native.Mathlib.Nat.{zero-add}
 use native.Mathlib.Decide.{ℕ-discrete}
 use native.Mathlib.Omega.{arith}
@@ -12,13 +12,15 @@ use lib.Seq.{getD-set-same, getD-set-other}
 use lib.Dec.{ltb, eqb, lit<}
 use lib.Bits.{bitOr}
 use borrow.Author.Tests.{lt-ltb, le-ltb, eq-eqb, ne-eqb}
+use Rattle.numbers.specs.Words.{joinedWords}
 use Rattle.laws.specs.Counting.{countBelow}
-use Rattle.laws.proofs.Orders.{le-or-lt}
+use Rattle.laws.proofs.Orders.{le-or-lt, ltb-iff}
 use Rattle.laws.proofs.Counting.{count-add, count-cong}
-use Rattle.positions.specs.Bits.{bit, LowZero, BitLength, LoweredWord}
+use Rattle.positions.specs.Bits.{bit}
+use Rattle.positions.specs.Inner.{LowZero, BitLength}
 use Rattle.positions.specs.Members.{has, FirstMissing, HighestAt}
 use Rattle.positions.specs.declared.Positions.{Positions}
-use Rattle.positions.proofs.Bits.{bit-mask, bit-or, bit-zero}
+use Rattle.positions.proofs.Bits.{bit-mask, bit-or, bit-zero, joined-near, joined-far}
 
 pub has-out : (p : Positions) (k : ℕ) → 256 ≤ k → has p k ≡ false
 unfolding has
@@ -191,17 +193,21 @@ module _ (p : Positions) (j l : ℕ) (m : j < 4) (z : BitLength (getD (p .words)
         above = λ k o b. empty-from k (omega arith);
       }
 
+-- ---- below n: of the positions from k on those that are left of n
+pub less-below : (n k j : ℕ) {r : ℕ} → r ≡ n - k → ltb j r ≡ ltb (k + j) n
+less-below n k j {r} e = ltb-iff j r (k + j) n (λ p. omega arith) (λ p. omega arith)
+
 -- ---- down by n: the word j of the result starts at bit n % 64 of the word n / 64 + j
 pub lowered-at : (p : Positions) (n j v w r : ℕ) → length (p .words) ≡ 4 → v ≡ getD (p .words) (n / 64 + j) 0 → w ≡ getD (p .words) (n / 64 + suc j) 0
-    → LoweredWord v w (n % 64) r → (k : ℕ) → k < 64 → bit r k ≡ has p ((64 * j + k) + n)
-lowered-at p n j v w r l ev ew z k h = ⊎-elim far near (le-or-lt 64 (k + n % 64))
+    → r ≡ joinedWords v w (n % 64) → v < 2 ^ 64 → (k : ℕ) → k < 64 → bit r k ≡ has p ((64 * j + k) + n)
+lowered-at p n j v w r l ev ew z f k h = ⊎-elim far near (le-or-lt 64 (k + n % 64))
   where
     near : k + n % 64 < 64 → bit r k ≡ has p ((64 * j + k) + n)
     near q =
         let e : (64 * j + k) + n ≡ 64 * (n / 64 + j) + (k + n % 64) = omega arith in
-        z .near k q ∙ rw (e, ev) (sym (has-word p (n / 64 + j) (k + n % 64) l q))
+        ap (λ (x : ℕ). bit x k) z ∙ joined-near v w (n % 64) k f q ∙ rw (e, ev) (sym (has-word p (n / 64 + j) (k + n % 64) l q))
 
     far : 64 ≤ k + n % 64 → bit r k ≡ has p ((64 * j + k) + n)
     far q =
         let e : (64 * j + k) + n ≡ 64 * (n / 64 + suc j) + ((k + n % 64) - 64) = omega arith in
-        z .far k h q ∙ rw (e, ew) (sym (has-word p (n / 64 + suc j) ((k + n % 64) - 64) l (omega arith)))
+        ap (λ (x : ℕ). bit x k) z ∙ joined-far v w (n % 64) k f h q ∙ rw (e, ew) (sym (has-word p (n / 64 + suc j) ((k + n % 64) - 64) l (omega arith)))

@@ -1,7 +1,6 @@
--- The bits of a number, and what the functions on one word of 64 bits answer.
+-- The bits of a number.
 use mathlib.Core.Bool.{Bool, true, false}
-use mathlib.Core.Path.{_≡_}
-use Prim.Native.Nat.{ℕ, zero, suc, _+_, _-_, _/_, _%_, _<_, _≤_}
+use Prim.Native.Nat.{ℕ, zero, suc, _/_, _%_}
 
 -- a digit as a truth value
 abbrev pub isOne : ℕ → Bool
@@ -12,20 +11,3 @@ isOne (suc n) = true
 unfoldable pub bit : ℕ → ℕ → Bool
 bit n zero = isOne (n % 2)
 bit n (suc k) = bit (n / 2) k
-
--- r is the place of the lowest bit of w that is not set, 64 where all are
-pub record LowZero (w r : ℕ) : Type 0 where
-  pub most : r ≤ 64
-  pub before : (j : ℕ) → j < r → bit w j ≡ true
-  pub clear : r < 64 → bit w r ≡ false
-
--- w has r digits: none at r and above, and the one below r is set
-pub record BitLength (w r : ℕ) : Type 0 where
-  pub most : r ≤ 64
-  pub above : (j : ℕ) → r ≤ j → bit w j ≡ false
-  pub top : (j : ℕ) → r ≡ suc j → bit w j ≡ true
-
--- r is the word that starts at bit s of the two words low and high
-pub record LoweredWord (low high s r : ℕ) : Type 0 where
-  pub near : (j : ℕ) → j + s < 64 → bit r j ≡ bit low (j + s)
-  pub far : (j : ℕ) → j < 64 → 64 ≤ j + s → bit r j ≡ bit high ((j + s) - 64)

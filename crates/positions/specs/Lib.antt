@@ -1,4 +1,5 @@
--- What the contracts of `positions` cite.
+-- What the contracts of `positions` cite; Inner is for private ones alone.
 pub mod Bits
 pub mod Members
 pub mod Compacting
+pub mod Inner

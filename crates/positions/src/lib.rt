@@ -6,6 +6,8 @@ ghost use Prim.Native.Nat.{ℕ, _+_};
 ghost use lib.Dec.{ltb, eqb};
 ghost use Rattle.laws.specs.Counting.{countBelow};
 ghost use Rattle.positions.specs.Members.{has, FirstMissing, Subset, IsHighest};
+use numbers::joined;
+use numbers::less;
 
 mod plan;
 mod word;
@@ -193,9 +195,9 @@ impl Positions {
         Positions {
             words: [
                 word::below(a[0], n),
-                word::below(a[1], word::less(n, 64)),
-                word::below(a[2], word::less(n, 128)),
-                word::below(a[3], word::less(n, 192)),
+                word::below(a[1], less(n, 64)),
+                word::below(a[2], less(n, 128)),
+                word::below(a[3], less(n, 192)),
             ],
         }
     }
@@ -206,17 +208,16 @@ impl Positions {
     {
         let a = self.words;
         let j = n / 64;
-        let s = n % 64;
         let w0 = word::at(a, j);
         let w1 = word::at(a, j + 1);
         let w2 = word::at(a, j + 2);
         let w3 = word::at(a, j + 3);
         Positions {
             words: [
-                word::lowered(w0, w1, s),
-                word::lowered(w1, w2, s),
-                word::lowered(w2, w3, s),
-                word::lowered(w3, 0, s),
+                joined(w0, w1, n),
+                joined(w1, w2, n),
+                joined(w2, w3, n),
+                joined(w3, 0, n),
             ],
         }
     }

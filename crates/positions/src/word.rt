@@ -1,10 +1,11 @@
 // One word of 64 bits of a set. Each function says what it does to every bit, so that casts and shifts are dealt with here alone.
 ghost use mathlib.Core.Path.{_≡_};
 ghost use mathlib.Core.Bool.{not, _&&_, _||_};
-ghost use Prim.Native.Nat.{ℕ, _+_, _<_, _≤_};
+ghost use Prim.Native.Nat.{ℕ, _<_, _≤_};
 ghost use lib.ListN.{getD};
 ghost use lib.Dec.{ltb, eqb};
-ghost use Rattle.positions.specs.Bits.{isOne, bit, LowZero, BitLength, LoweredWord};
+ghost use Rattle.positions.specs.Bits.{isOne, bit};
+ghost use Rattle.positions.specs.Inner.{LowZero, BitLength};
 ghost use Rattle.laws.specs.Counting.{countBelow};
 
 // Sets the bit `k` where the digit `d` is 1, with no branch.
@@ -27,14 +28,6 @@ pub fn without(w: u64, v: u64) -> u64
     ensures { λ r. ⌜ ((j : ℕ) → j < 64 → bit r j ≡ (bit w j && not (bit v j))) ⌝ }
 {
     w & !v
-}
-
-// The word that starts at bit `s` of `low`, filled up from `high`.
-pub(super) fn lowered(low: u64, high: u64, s: usize) -> u64
-    requires { ⌜ s < 64 ⌝ }
-    ensures { λ r. ⌜ LoweredWord low high s r ⌝ }
-{
-    (low >> s) | ((high << 1) << (63 - s))
 }
 
 // The word `j`; beyond the four words there are only zeros.
@@ -60,11 +53,4 @@ pub fn bit_length(w: u64) -> usize
     ensures { λ r. ⌜ BitLength w r ⌝ }
 {
     64 - u64::leading_zeros(w) as usize
-}
-
-// How many of the positions from `k` on are below `n`.
-pub fn less(n: usize, k: usize) -> usize
-    ensures { λ r. ⌜ ((j : ℕ) → ltb j r ≡ ltb (k + j) n) ⌝ }
-{
-    if k <= n { n - k } else { 0 }
 }

@@ -1,73 +1,148 @@
-// The session, and the graph and the history beside it. The session is handed to each word, the graph to the words of a graph alone: it is large.
-use crate::answers;
-use crate::session::Session;
-use crate::traces::Traces;
-use crate::traces::no_traces;
+// What goes from one line to the next, and which module a line's word belongs to.
+use clocks::refusal::ACCEPTED;
 use clocks::refusal::BAD_LINE;
-use graph::EventGraph;
-
-pub struct Log {
-    // A good g.new or g.from came.
-    pub made: bool,
-    pub graph: EventGraph,
-}
+use clocks::vector::Seq;
+use numbers::entry;
+use probe_clocks::Clocked;
+use probe_graph::Log;
+use probe_graph::Logged;
+use probe_history::Traced;
+use probe_history::Traces;
+use probe_text::answers::refused;
+use probe_text::lent::MOST_ROOM;
+use probe_text::parts::bytes;
+use probe_text::parts::part;
+use probe_text::tokens::MOST_TOKENS;
+use probe_text::tokens::parse;
+use probe_text::words::NO_ROW;
+use probe_text::words::row;
+use text::bytes::byte_at;
 
 pub struct State {
-    pub session: Session,
-    pub log: Log,
-    pub traces: Traces,
-}
-
-// No log yet: its graph is asked nothing.
-fn no_log() -> Log {
-    let a = EventGraph::new(1);
-    let graph = a.graph;
-    Log { made: false, graph }
+    // How much of the output buffer is filled.
+    pub at: usize,
+    // How many entries the buffers have that list calls are lent.
+    room: usize,
+    // R of the clock words; 0 before a good c.replicas.
+    replicas: usize,
+    log: Log,
+    traces: Traces,
 }
 
 impl State {
     pub fn new() -> State {
         State {
-            session: Session::new(),
-            log: no_log(),
-            traces: no_traces(),
+            at: 0,
+            room: 512,
+            replicas: 0,
+            log: probe_graph::no_log(),
+            traces: probe_history::no_traces(),
         }
     }
 
     // The same with the output filled up to another place.
-    pub fn moved(self, at: usize) -> State {
-        let log = self.log;
-        let traces = self.traces;
-        State {
-            session: self.session.moved(at),
-            log,
-            traces,
-        }
+    pub fn moved(mut self, at: usize) -> State {
+        self.at = at;
+        self
     }
 
-    // The same with another log.
-    pub fn logged(self, at: usize, log: Log) -> State {
-        let traces = self.traces;
-        State {
-            session: self.session.moved(at),
-            log,
-            traces,
-        }
+    fn clocked(mut self, a: Clocked) -> State {
+        self.at = a.at;
+        self.replicas = a.replicas;
+        self
     }
 
-    // The same with another history.
-    pub fn traced(self, at: usize, traces: Traces) -> State {
-        let log = self.log;
-        State {
-            session: self.session.moved(at),
-            log,
-            traces,
-        }
+    fn logged(mut self, a: Logged) -> State {
+        let log = a.log;
+        self.at = a.at;
+        self.log = log;
+        self
+    }
+
+    fn traced(mut self, a: Traced) -> State {
+        let traces = a.traces;
+        self.at = a.at;
+        self.traces = traces;
+        self
+    }
+
+    fn roomy(mut self, room: usize) -> State {
+        self.room = room;
+        self
     }
 }
 
-// What is no line, and what has no log yet.
-pub fn refuse_line(st: State, out: &mut [u8]) -> State {
-    let s = st.session;
-    st.moved(answers::refusal(out, s.at, BAD_LINE))
+// What `room N` is refused with, or 0.
+fn room_refusal(line: &[u8], kinds: &[u8], values: &[usize]) -> usize {
+    if row(b"room:n", line, kinds, values) == NO_ROW {
+        return BAD_LINE;
+    }
+    if MOST_ROOM < entry(values, 0) {
+        return BAD_LINE;
+    }
+    ACCEPTED
+}
+
+// The word of no module, `room N`.
+fn room(st: State, line: &[u8], kinds: &[u8], values: &[usize], out: &mut [u8]) -> State {
+    let refusal = room_refusal(line, kinds, values);
+    let st = st.moved(refused(out, st.at, refusal));
+    if refusal == ACCEPTED {
+        return st.roomy(entry(values, 0));
+    }
+    st
+}
+
+// One line, taken apart and handed to the module of its word. The tables are those of the history.
+pub fn answer(
+    st: State,
+    line: &[u8],
+    out: &mut [u8; 65_536],
+    versions: &mut [Seq; 8192],
+    notes: &mut [u64; 1536],
+    boundaries: &mut [Seq; 256],
+) -> State {
+    let mut kinds = [0u8; MOST_TOKENS];
+    let mut values = [0usize; MOST_TOKENS];
+    let n = parse(line, &mut kinds, &mut values);
+    let kinds = bytes(&kinds, 0, n);
+    let values = part(&values, 0, n);
+    by_word(st, line, kinds, values, out, versions, notes, boundaries)
+}
+
+fn by_word(
+    st: State,
+    line: &[u8],
+    kinds: &[u8],
+    values: &[usize],
+    out: &mut [u8; 65_536],
+    versions: &mut [Seq; 8192],
+    notes: &mut [u64; 1536],
+    boundaries: &mut [Seq; 256],
+) -> State {
+    match byte_at(line, 0) {
+        b'c' => st.clocked(probe_clocks::answer(
+            st.replicas,
+            st.room,
+            line,
+            kinds,
+            values,
+            out,
+            st.at,
+        )),
+        b'g' => st.logged(probe_graph::answer(st.log, st.room, line, kinds, values, out, st.at)),
+        b'h' => st.traced(probe_history::answer(
+            st.traces,
+            st.room,
+            line,
+            kinds,
+            values,
+            out,
+            st.at,
+            versions,
+            notes,
+            boundaries,
+        )),
+        _ => room(st, line, kinds, values, out),
+    }
 }

@@ -9,8 +9,9 @@ use native.Mathlib.Omega.{arith}
 use borrow.Author.Tests.{lt-ltb, le-ltb, eq-eqb}
 use Rattle.laws.proofs.Orders.{le-or-lt, imp-of, true-or-false, is-false}
 use Rattle.clocks.specs.Vectors.{entry, wellFormed}
+use Rattle.clocks.specs.Ids.{codeOf}
 use Rattle.clocks.proofs.Vectors.{well-formed-for, well-formed-length, at-most-elim}
-use Rattle.tables.specs.Slots.{codeOf, descends}
+use Rattle.tables.specs.Slots.{descends}
 use Rattle.graph.specs.Refusals.{isBehind, refusalOf}
 use Rattle.graph.specs.Graphs.{pushed}
 use Rattle.graph.specs.Invariant.{GraphOk, replicaAt, seqAt, Siblings}

@@ -13,8 +13,8 @@ use borrow.Author.Tests.{eq-eqb, eqb-true}
 use Rattle.laws.specs.Counting.{pick}
 use Rattle.laws.proofs.Orders.{true-or-false}
 use Rattle.clocks.specs.Vectors.{entry}
+use Rattle.clocks.specs.Ids.{codeOf}
 use Rattle.clocks.proofs.Vectors.{well-formed-for}
-use Rattle.tables.specs.Slots.{codeOf}
 use Rattle.graph.specs.Refusals.{refusalOf}
 use Rattle.graph.specs.Graphs.{pushed, appended}
 use Rattle.graph.specs.Invariant.{replicaAt, seqAt, codeAt}

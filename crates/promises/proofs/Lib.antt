@@ -20,6 +20,7 @@ pub mod Demand3
 pub mod OwnTrace
 pub mod OneAnswer
 pub mod OneAnswerSets
+pub mod OneAnswerNumbers
 pub mod OneAnswerClocks
 pub mod OneAnswerPositions
 pub mod OneAnswerHistory

@@ -12,6 +12,8 @@ use Rattle.clocks.proofs.vector.compare.Reads.{Post as compare}
 use Rattle.clocks.proofs.vector.sum.Reads.{Post as sum}
 use Rattle.clocks.proofs.id.Disambiguator.eq.Reads.{Post as disambiguator-eq}
 use Rattle.clocks.proofs.id.Disambiguator.is_below.Reads.{Post as disambiguator-is-below}
+use Rattle.clocks.proofs.id.code_of.Reads.{Post as code-of}
+use Rattle.clocks.proofs.id.decoded.Reads.{Post as decoded}
 use Rattle.clocks.proofs.id.EventId.new.Reads.{Post as id-new}
 use Rattle.clocks.proofs.id.EventId.new_with_disambiguator.Reads.{Post as id-new-with-disambiguator}
 use Rattle.clocks.proofs.id.EventId.with_disambiguator.Reads.{Post as id-with-disambiguator}
@@ -24,6 +26,9 @@ use Rattle.clocks.proofs.tagged_op.TaggedOp.new.Reads.{Post as tagged-new}
 use Rattle.clocks.proofs.tagged_op.TaggedOp.from_event.Reads.{Post as tagged-from-event}
 use Rattle.clocks.proofs.tagged_op.TaggedOp.id.Reads.{Post as tagged-id}
 use Rattle.clocks.proofs.tagged_op.TaggedOp.lamport.Reads.{Post as tagged-lamport}
+use Rattle.clocks.proofs.causal_frontier.joined_entries.Reads.{Post as joined-entries}
+use Rattle.clocks.proofs.causal_frontier.met_entries.Reads.{Post as met-entries}
+use Rattle.clocks.proofs.causal_frontier.with_entry.Reads.{Post as with-entry}
 use Rattle.clocks.proofs.causal_frontier.CausalFrontier.new.Reads.{Post as frontier-new}
 use Rattle.clocks.proofs.causal_frontier.CausalFrontier.from_entries.Reads.{Post as frontier-from-entries}
 use Rattle.clocks.proofs.causal_frontier.CausalFrontier.zeroed.Reads.{Post as frontier-zeroed}
@@ -94,6 +99,12 @@ disambiguator-eq-once κs a x y s t p q = one-answer p q
 pub disambiguator-is-below-once : Once disambiguator-is-below
 disambiguator-is-below-once κs a x y s t p q = one-answer p q
 
+pub code-of-once : Once code-of
+code-of-once κs a x y s t p q = one-answer p q
+
+pub decoded-once : Once decoded
+decoded-once κs a x y s t p q = one-answer p q
+
 -- ---- an id
 
 pub id-new-once : Once id-new
@@ -137,6 +148,15 @@ pub tagged-lamport-once : Once tagged-lamport
 tagged-lamport-once κs a x y s t p q = one-answer p q
 
 -- ---- frontiers
+
+pub joined-entries-once : Once joined-entries
+joined-entries-once κs a x y s t p q = one-answer p q
+
+pub met-entries-once : Once met-entries
+met-entries-once κs a x y s t p q = one-answer p q
+
+pub with-entry-once : Once with-entry
+with-entry-once κs a x y s t p q = one-answer p q
 
 pub frontier-new-once : Once frontier-new
 frontier-new-once κs a x y s t p q = one-answer p q

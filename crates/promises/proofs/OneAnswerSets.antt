@@ -13,7 +13,8 @@ use lib.Seq.{ext-getD}
 use borrow.Author.Tests.{lt-ltb, le-ltb}
 use Rattle.laws.specs.Counting.{anyBelow}
 use Rattle.laws.proofs.Orders.{le-or-lt}
-use Rattle.positions.specs.Bits.{bit, LowZero, BitLength, LoweredWord}
+use Rattle.positions.specs.Bits.{bit}
+use Rattle.positions.specs.Inner.{LowZero, BitLength}
 use Rattle.positions.specs.Members.{has, Words, FirstMissing, Subset, IsHighest}
 use Rattle.positions.specs.Compacting.{leaves, marked, Planned, Compacted}
 use Rattle.positions.proofs.Bits.{bit-ext, bit-zero}
@@ -111,10 +112,6 @@ reaches-once {cov} {m} {n} a b = neither m n (reaches-at a b) (reaches-at b a)
 pub one-word : (f : ℕ → Bool) (x y : ℕ) → x < 2 ^ 64 → y < 2 ^ 64 → ((j : ℕ) → j < 64 → bit x j ≡ f j) → ((j : ℕ) → j < 64 → bit y j ≡ f j) → x ≡ y
 one-word f x y u w a b = bit-ext 64 x y u w (λ j l. one-answer (a j l) (b j l))
 
-pub lowered-once : {low high s x y : ℕ} → x < 2 ^ 64 → y < 2 ^ 64 → LoweredWord low high s x → LoweredWord low high s y → x ≡ y
-lowered-once {low} {high} {s} {x} {y} u w a b = bit-ext 64 x y u w (λ j l.
-    ⊎-elim (λ (m : 64 ≤ j + s). one-answer (a .far j l m) (b .far j l m)) (λ (m : j + s < 64). one-answer (a .near j m) (b .near j m)) (le-or-lt 64 (j + s)))
-
 pub low-zero-once : {w x y : ℕ} → LowZero w x → LowZero w y → x ≡ y
 low-zero-once {w} {x} {y} a b =
     neither x y (λ l. clash (b .before x l) (a .clear (omega (arith, b .most)))) (λ l. clash (a .before y l) (b .clear (omega (arith, a .most))))
@@ -125,9 +122,3 @@ length-at w x (suc y) a b l = clash (b .top y refl) (a .above y (omega arith))
 
 pub bit-length-once : {w x y : ℕ} → BitLength w x → BitLength w y → x ≡ y
 bit-length-once {w} {x} {y} a b = neither x y (length-at w x y a b) (length-at w y x b a)
-
--- a number of which the contract says what is below it
-pub one-bound : (f : ℕ → Bool) (x y : ℕ) → ((j : ℕ) → ltb j x ≡ f j) → ((j : ℕ) → ltb j y ≡ f j) → x ≡ y
-one-bound f x y a b = neither x y
-    (λ l. clash (lt-ltb x y l) (b x ∙ (sym (a x) ∙ le-ltb x x (omega arith))))
-    (λ l. clash (lt-ltb y x l) (a y ∙ (sym (b y) ∙ le-ltb y y (omega arith))))

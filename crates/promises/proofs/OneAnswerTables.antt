@@ -13,8 +13,6 @@ use Rattle.tables.proofs.ranks.close.Reads.{Post as close}
 use Rattle.tables.proofs.ranks.cuts_of.Reads.{Post as cuts-of}
 use Rattle.tables.proofs.ranks.highest.Reads.{Post as highest}
 use Rattle.tables.proofs.ranks.close_rows.Reads.{Post as close-rows}
-use Rattle.tables.proofs.slots.code_of.Reads.{Post as code-of}
-use Rattle.tables.proofs.slots.decoded.Reads.{Post as decoded}
 use Rattle.tables.proofs.slots.used_of.Reads.{Post as used-of}
 use Rattle.tables.proofs.slots.place.Reads.{Post as place}
 use Rattle.tables.proofs.slots.reach.Reads.{Post as reach}
@@ -68,12 +66,6 @@ pub tables-close-rows-once : Once close-rows
 tables-close-rows-once κs a x y s t p q = one-answer p q
 
 -- ---- the slots
-
-pub tables-code-of-once : Once code-of
-tables-code-of-once κs a x y s t p q = one-answer p q
-
-pub tables-decoded-once : Once decoded
-tables-decoded-once κs a x y s t p q = one-answer p q
 
 pub tables-used-of-once : Once used-of
 tables-used-of-once κs a x y s t p q = one-answer p q

@@ -13,7 +13,7 @@ use borrow.Author.Tests.{eq-eqb, eqb-true}
 use Rattle.laws.proofs.Orders.{true-or-false}
 use Rattle.history.specs.Tables.{rowOf, noteAt, replaced, noted}
 use Rattle.history.specs.Traces.{replicas, newest, held, eventOf, holds, got, versionOf, isBoundary, versionWithBoundary, lastVersion, HistoryOk}
-use Rattle.history.specs.Appends.{appendRefusal, appended, Appends, SameTrace}
+use Rattle.history.specs.Appends.{appendRefusal, appended, Appends}
 use Rattle.history.specs.Lists.{Lists, span, isAbsent, isBadRange, rangeRefusal, eventAt}
 use Rattle.history.specs.Neighbours.{previousOf, nextOf}
 use Rattle.clocks.specs.Vectors.{desks}
@@ -22,7 +22,7 @@ use Rattle.history.proofs.Tables.{row-in, rows-apart, length-replaced}
 use Rattle.history.proofs.Traces.{desk-in}
 use Rattle.history.proofs.Appends.{Accepted, accepted-tells}
 use Rattle.history.proofs.Histories.{append-ok}
-use Rattle.history.proofs.Own.{append-own, append-other}
+use Rattle.history.proofs.Own.{SameTrace, append-own, append-other}
 use Rattle.history.proofs.Notes.{note-other}
 use Rattle.history.specs.declared.event_history.HistoryAnswer.{HistoryAnswer}
 use Rattle.clocks.specs.declared.event.Event.{Event}

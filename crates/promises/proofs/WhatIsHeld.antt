@@ -11,7 +11,7 @@ use lib.ListN.{length, getD, length-replicate}
 use Rattle.laws.proofs.Orders.{true-or-false}
 use Rattle.clocks.specs.Vectors.{entry}
 use Rattle.clocks.specs.Frontiers.{fromEntries}
-use Rattle.tables.specs.Slots.{codeOf}
+use Rattle.clocks.specs.Ids.{codeOf}
 use Rattle.graph.specs.Graphs.{created, checkpointed}
 use Rattle.graph.specs.Invariant.{NotesOk, replicaAt, seqAt, codeAt}
 use Rattle.promises.specs.Reached.{Versions, none, versionAt}

@@ -6,7 +6,7 @@ use mathlib.Core.Path.{_≡_}
 use Prim.Native.Nat.{ℕ, _+_}
 use lib.Dec.{eqb}
 use Rattle.laws.specs.Counting.{pick, one}
-use Rattle.tables.specs.Slots.{codeOf}
+use Rattle.clocks.specs.Ids.{codeOf}
 use Rattle.graph.specs.Removals.{flushed, withoutId, retained, cleared}
 use Rattle.graph.specs.Invariant.{replicaAt, seqAt, codeAt}
 use Rattle.clocks.specs.declared.event.Event.{Event}

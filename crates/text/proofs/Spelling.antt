@@ -10,7 +10,8 @@ use lib.ListN.{length, take, drop, set, length-append, length-set, take-append-d
 use lib.Seq.{drop-cons, take-set-le, drop-set-lt, getD-set-same}
 use borrow.Author.Tests.{lt-ltb, le-ltb}
 use Rattle.laws.specs.Counting.{pick}
-use Rattle.text.specs.Numbers.{placesUpTo, places, lastDigits, spelled, writtenBack}
+use Rattle.text.specs.Numbers.{placesUpTo, places, lastDigits, spelled}
+use Rattle.text.specs.Inner.{writtenBack}
 use Rattle.text.specs.Bytes.{placed, placedEnd}
 use Rattle.text.proofs.Placing.{placed-in}
 

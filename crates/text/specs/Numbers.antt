@@ -1,10 +1,9 @@
 -- Numbers in text. Document 01, The listing program: decimals without sign or leading zeros, below 2^64.
-use mathlib.Core.Bool.{Bool, true, false, _&&_, _||_, not}
+use mathlib.Core.Bool.{Bool, _&&_, _||_, not}
 use mathlib.Core.List.{List, [], _∷_, _++_}
-use mathlib.Core.Path.{_≡_}
-use Prim.Native.Nat.{ℕ, zero, suc, _+_, _*_, _-_, _/_, _%_, _^_, _≤_, _<_}
+use Prim.Native.Nat.{ℕ, zero, suc, _+_, _*_, _-_, _/_, _%_, _^_}
 use lib.Dec.{ltb, leb, eqb}
-use lib.ListN.{drop, getD, set}
+use lib.ListN.{drop, getD}
 use Rattle.laws.specs.Counting.{pick}
 use Rattle.text.specs.declared.number.Number.{Number}
 use Rattle.text.specs.declared.number.Number.the-variants.{Value, Bad}
@@ -12,11 +11,6 @@ use Rattle.text.specs.declared.number.Number.the-variants.{Value, Bad}
 -- `0` is byte 48 and `9` is byte 57
 abbrev pub isDigit : ℕ → Bool
 isDigit b = leb 48 b && leb b 57
-
--- r is the digit's value, and above 9 for any other byte
-pub record Digit (b r : ℕ) : Type 0 where
-  pub yes : r ≤ 9 → (isDigit b ≡ true) × (r ≡ b - 48)
-  pub no : 9 < r → isDigit b ≡ false
 
 -- how many digits the bytes start with
 unfoldable pub digitsIn : List ℕ → ℕ
@@ -56,8 +50,3 @@ lastDigits (suc k) n = lastDigits k (n / 10) ++ ((48 + n % 10) ∷ [])
 -- n as text
 unfoldable pub spelled : ℕ → List ℕ
 spelled n = lastDigits (places n) n
-
--- the last k digits of n stored from a place on, the last first
-unfoldable pub writtenBack : List ℕ → ℕ → ℕ → ℕ → List ℕ
-writtenBack out at zero n = out
-writtenBack out at (suc k) n = writtenBack (set out (at + k) (48 + n % 10)) at k (n / 10)

@@ -1,13 +1,28 @@
-// Bytes in lent buffers: one byte read, bytes put at a place, and two runs of bytes compared.
+// Bytes in lent buffers: one byte read or looked for, bytes put at a place, and two runs of bytes compared.
 ghost use mathlib.Core.Path.{_≡_};
-ghost use lib.ListN.{getD};
-ghost use Rattle.text.specs.Bytes.{Same, placed, placedEnd};
+ghost use Prim.Native.Nat.{_+_};
+ghost use lib.ListN.{getD, drop};
+ghost use Rattle.text.specs.Bytes.{Same, placed, placedEnd, bytesBefore};
 
 // The byte at a place; 0 past the end.
 pub fn byte_at(s: &[u8], at: usize) -> u8
     ensures { λ r. ⌜ r ≡ getD (now (s .entry)) at 0 ⌝ }
 {
     if at < s.len() { s[at] } else { 0 }
+}
+
+// The place of the first such byte from `at` on, or the end.
+pub fn find_byte(s: &[u8], at: usize, b: u8) -> usize
+    ensures { λ r. ⌜ r ≡ at + bytesBefore b (drop at (now (s .entry))) ⌝ }
+{
+    let mut i = at;
+    while i < s.len() {
+        if s[i] == b {
+            return i;
+        }
+        i += 1;
+    }
+    i
 }
 
 // The bytes from this place on, with the place behind them. Where they do not fit nothing changes and the place stays.

@@ -1,10 +1,11 @@
 // Lines that arrive in pieces. The caller lends a buffer as long as the longest line; the state between pieces is a value.
 ghost use mathlib.Core.Path.{_≡_};
 ghost use mathlib.Core.Bool.{false};
-ghost use Prim.Native.Nat.{_+_, _-_, min};
-ghost use lib.ListN.{drop};
-ghost use Rattle.text.specs.Lines.{beforeNewline, heldAfter, Took};
+ghost use Rattle.text.specs.Lines.{heldAfter, Took};
+use crate::bytes::find_byte;
 use crate::bytes::put;
+use numbers::less;
+use numbers::smaller;
 
 // What the line buffer holds: so many bytes of the current line, or the first of a line that is longer than the buffer.
 pub struct Held {
@@ -27,20 +28,6 @@ pub fn fresh() -> Held
         len: 0,
         overlong: false,
     }
-}
-
-// The place of the first newline from `at` on, or the piece's end.
-fn line_end(piece: &[u8], at: usize) -> usize
-    ensures { λ r. ⌜ r ≡ at + beforeNewline (drop at (now (piece .entry))) ⌝ }
-{
-    let mut i = at;
-    while i < piece.len() {
-        if piece[i] == b'\n' {
-            return i;
-        }
-        i += 1;
-    }
-    i
 }
 
 // The state after so many more bytes of the line.
@@ -66,26 +53,12 @@ fn settled(limit: usize, held: Held, count: usize) -> Held
     }
 }
 
-// How many bytes fit behind the first `len`.
-fn room_behind(limit: usize, len: usize) -> usize
-    ensures { λ r. ⌜ r ≡ limit - len ⌝ }
-{
-    if limit < len { 0 } else { limit - len }
-}
-
-// The lesser of two.
-pub fn least(a: usize, b: usize) -> usize
-    ensures { λ r. ⌜ r ≡ min a b ⌝ }
-{
-    if a < b { a } else { b }
-}
-
 // The next part of the line, from `at` on in a piece of the input: stored as far as the buffer reaches, and passed over behind that.
 pub fn feed(line: &mut [u8], held: Held, piece: &[u8], at: usize) -> Taken
     ensures { λ r. ⌜ Took (now (line .entry)) held (now (piece .entry)) at (now (line .exit)) r ⌝ }
 {
     let limit = line.len();
-    let end = line_end(piece, at);
+    let end = find_byte(piece, at, b'\n');
     let after = settled(limit, held, end - at);
     if piece.len() <= at {
         return Taken {
@@ -95,7 +68,7 @@ pub fn feed(line: &mut [u8], held: Held, piece: &[u8], at: usize) -> Taken
         };
     }
     let len = held.len;
-    let count = least(end - at, room_behind(limit, len));
+    let count = smaller(end - at, less(limit, len));
     put(line, len, &piece[at..at + count]);
     if end < piece.len() {
         return Taken {

@@ -5,7 +5,8 @@ ghost use Prim.Native.Nat.{_-_, _+_, _≤_};
 ghost use lib.Dec.{ltb, eqb};
 ghost use lib.ListN.{length};
 ghost use Rattle.laws.specs.Counting.{pick};
-ghost use Rattle.text.specs.Numbers.{Digit, numberAt, spelled, writtenBack};
+ghost use Rattle.text.specs.Numbers.{numberAt, spelled};
+ghost use Rattle.text.specs.Inner.{Digit, writtenBack};
 ghost use Rattle.text.specs.Bytes.{placed, placedEnd};
 use crate::bytes::byte_at;
 

@@ -1,39 +1,40 @@
--- The turns are counted down. The buffers keep their lengths.
-use mathlib.Core.Path.{_≡_}
-use lib.ListN.{length}
+-- The turns are counted down.
 use borrow.Author.Needs.{needs}
 use Rattle.probe.proofs.run.Statement.{statement}
 use Rattle.probe.proofs.run.Tie as tie
 
 abbrev Inv-loop : tie.InvT-loop
-Inv-loop input₀ line₀ out₀ versions₀ notes₀ boundaries₀ p₀ turns₀ input line out versions notes boundaries p turns = (length input ≡ length input₀) × (length line ≡ length line₀) × (length out ≡ length out₀)
+Inv-loop input₀ line₀ out₀ versions₀ notes₀ boundaries₀ st₀ r₀ turns₀ input line out versions notes boundaries st r turns = Unit {0}
 
 abbrev μ-loop : tie.MeasureT-loop
-μ-loop input₀ line₀ out₀ versions₀ notes₀ boundaries₀ p₀ turns₀ input line out versions notes boundaries p turns = turns
-
-fresh-requires : tie.Need-fresh-requires Inv-loop μ-loop
-fresh-requires c κs = tt
+μ-loop input₀ line₀ out₀ versions₀ notes₀ boundaries₀ st₀ r₀ turns₀ input line out versions notes boundaries st r turns = turns
 
 new-requires : tie.Need-new-requires Inv-loop μ-loop
 new-requires c κs = tt
 
+fresh-requires : tie.Need-fresh-requires Inv-loop μ-loop
+fresh-requires c κs = tt
+
 loop-holds : tie.Need-loop-holds Inv-loop μ-loop
-loop-holds c = search needs
+loop-holds c = tt
 
-turn-requires : tie.Need-turn-requires Inv-loop μ-loop
-turn-requires c κs = tt
+written-requires : tie.Need-written-requires Inv-loop μ-loop
+written-requires c κs = tt
 
-same-length : tie.Need-same-length Inv-loop μ-loop
-same-length c = search needs
-
-same-length-2 : tie.Need-same-length-2 Inv-loop μ-loop
-same-length-2 c = search needs
-
-same-length-3 : tie.Need-same-length-3 Inv-loop μ-loop
-same-length-3 c = search needs
+moved-requires : tie.Need-moved-requires Inv-loop μ-loop
+moved-requires c κs = tt
 
 returns : tie.Need-returns Inv-loop μ-loop
 returns c = search needs
+
+advanced-requires : tie.Need-advanced-requires Inv-loop μ-loop
+advanced-requires c κs = tt
+
+text-of-requires : tie.Need-text-of-requires Inv-loop μ-loop
+text-of-requires c κs = tt
+
+answer-requires : tie.Need-answer-requires Inv-loop μ-loop
+answer-requires c κs = tt
 
 sub-turns : tie.Need-sub-turns Inv-loop μ-loop
 sub-turns c = search needs
@@ -42,16 +43,7 @@ loop-less : tie.Need-loop-less Inv-loop μ-loop
 loop-less c = search needs
 
 loop-again : tie.Need-loop-again Inv-loop μ-loop
-loop-again c = search needs
-
-same-length-4 : tie.Need-same-length-4 Inv-loop μ-loop
-same-length-4 c = search needs
-
-same-length-5 : tie.Need-same-length-5 Inv-loop μ-loop
-same-length-5 c = search needs
-
-same-length-6 : tie.Need-same-length-6 Inv-loop μ-loop
-same-length-6 c = search needs
+loop-again c = tt
 
 returns-2 : tie.Need-returns-2 Inv-loop μ-loop
 returns-2 c = search needs
@@ -62,18 +54,16 @@ run-spec =
     (tie.spec
     Inv-loop
     μ-loop
-    fresh-requires
     new-requires
+    fresh-requires
     loop-holds
-    turn-requires
-    same-length
-    same-length-2
-    same-length-3
+    written-requires
+    moved-requires
     returns
+    advanced-requires
+    text-of-requires
+    answer-requires
     sub-turns
     loop-less
     loop-again
-    same-length-4
-    same-length-5
-    same-length-6
     returns-2)

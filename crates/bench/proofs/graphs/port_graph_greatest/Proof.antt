@@ -25,8 +25,11 @@ version-requires c κs = tt
 greatest-critical-frontier-requires : tie.Need-greatest-critical-frontier-requires Inv-loop μ-loop
 greatest-critical-frontier-requires c κs = tt
 
-flag-requires : tie.Need-flag-requires Inv-loop μ-loop
-flag-requires c κs = tt
+digit-requires : tie.Need-digit-requires Inv-loop μ-loop
+digit-requires c κs = tt
+
+size-requires : tie.Need-size-requires Inv-loop μ-loop
+size-requires c κs = tt
 
 wrapping-add-usize-requires : tie.Need-wrapping-add-usize-requires Inv-loop μ-loop
 wrapping-add-usize-requires c κs = tt
@@ -54,7 +57,8 @@ port-graph-greatest-spec =
     asked-requires
     version-requires
     greatest-critical-frontier-requires
-    flag-requires
+    digit-requires
+    size-requires
     wrapping-add-usize-requires
     add-k
     loop-less

@@ -15,8 +15,8 @@ entries-requires c κs = search needs
 len-requires : tie.Need-len-requires
 len-requires c κs = search needs
 
-least-requires : tie.Need-least-requires
-least-requires c κs = search needs
+smaller-requires : tie.Need-smaller-requires
+smaller-requires c κs = search needs
 
 sub-decimal-line : tie.Need-sub-decimal-line
 sub-decimal-line c = search needs
@@ -34,7 +34,7 @@ same-length : tie.Need-same-length
 same-length c = search needs
 
 returns : tie.Need-returns
-returns c = let l : length (c .before .before .before .before .before .before .before .before .before .before .args .f .entries) ≡ 16 = search needs in let n = c .before .before .before .before .before .before .least .result in let d : n - 0 ≡ n = omega arith in rw (d, c .before .before .before .before .before .before .least .ensures, c .before .before .before .before .before .before .before .len .ensures, c .before .before .before .before .before .before .before .before .entries .ensures, shown-entries (c .before .before .before .before .before .before .before .before .before .before .args .f .entries) (c .before .before .before .before .before .before .before .before .before .before .args .f .len) l) at (c .before .before .decimal-line .ensures)
+returns c = let l : length (c .before .before .before .before .before .before .before .before .before .before .args .f .entries) ≡ 16 = search needs in let n = c .before .before .before .before .before .before .smaller .result in let d : n - 0 ≡ n = omega arith in rw (d, c .before .before .before .before .before .before .smaller .ensures, c .before .before .before .before .before .before .before .len .ensures, c .before .before .before .before .before .before .before .before .entries .ensures, shown-entries (c .before .before .before .before .before .before .before .before .before .before .args .f .entries) (c .before .before .before .before .before .before .before .before .before .before .args .f .len) l) at (c .before .before .decimal-line .ensures)
 
 pub frontier-line-spec : {M : Type 1} → statement M
 frontier-line-spec =
@@ -42,7 +42,7 @@ frontier-line-spec =
     (tie.spec
     entries-requires
     len-requires
-    least-requires
+    smaller-requires
     sub-decimal-line
     part-decimal-line-start
     part-decimal-line-end

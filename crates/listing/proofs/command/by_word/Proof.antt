@@ -1,12 +1,10 @@
--- The comparisons are those of the definition, in its order.
-use mathlib.Core.Path.{refl, sym, ap, _∙_}
-use mathlib.Core.List.{List}
-use Prim.Native.Nat.{ℕ}
+-- A word that was met decides alone, and where none was met the line is none.
+use mathlib.Core.Path.{refl}
 use borrow.Author.Needs.{needs}
-use Rattle.laws.specs.Lists.{written}
-use Rattle.listing.specs.Commands.{byWord}
-use Rattle.listing.specs.Words.{bytes}
-use Rattle.listing.proofs.Wording.{same-told, replicas-none, remove-none, sheet-none}
+use Rattle.listing.specs.Commands.{byWord, replicasLine, removeLine, sheetLine, vectorLine, appendLine}
+use Rattle.listing.specs.Words.{bytes, sameBytes}
+use Rattle.listing.specs.declared.command.Command.the-variants.{Greatest, Check, Flush}
+use Rattle.listing.proofs.Wording.{unmet, by-this, tells-none, replicas-none, remove-none, sheet-none}
 use Rattle.listing.proofs.command.by_word.Statement.{statement}
 use Rattle.listing.proofs.command.by_word.Tie as tie
 
@@ -20,8 +18,8 @@ replicas-line-requires : tie.Need-replicas-line-requires
 replicas-line-requires c κs = search needs
 
 returns : tie.Need-returns
-unfolding byWord bytes
-returns c = rw (sym (same-told (c .before .before .before .before .before .before .before .args .word .now) (bytes "replicas") _ (c .before .before .same .ensures)) ∙ c .before .if1 .taken) (record { command = c .replicas-line .ensures; content = sym (ap (λ (l : List ℕ). written l (c .before .before .before .before .before .before .before .args .vector .now)) (replicas-none _ _)) })
+unfolding byWord sameBytes bytes
+returns c = by-this (λ room. replicasLine) _ _ (c .before .before .same .ensures) (c .before .if1 .taken) refl (tells-none _ (replicas-none _ _) (c .replicas-line .ensures))
 
 slice-aggregate-same-2 : tie.Need-slice-aggregate-same-2
 slice-aggregate-same-2 c = search needs
@@ -36,8 +34,8 @@ same-length : tie.Need-same-length
 same-length c = search needs
 
 returns-2 : tie.Need-returns-2
-unfolding byWord bytes
-returns-2 c = rw (sym (same-told (c .before .before .before .before .before .before .before .before .before .before .before .before .before .args .word .now) (bytes "replicas") _ (c .before .before .before .before .before .before .before .before .same .ensures)) ∙ c .before .before .before .before .before .before .before .if1 .left, sym (same-told (c .before .before .before .before .before .before .before .before .before .before .before .before .before .args .word .now) (bytes "append") _ (c .before .before .before .before .before .same2 .ensures)) ∙ c .before .before .before .before .if2 .taken) (c .before .before .append-line .ensures)
+unfolding byWord sameBytes bytes
+returns-2 c = by-this appendLine _ _ (c .before .before .before .before .before .same2 .ensures) (c .before .before .before .before .if2 .taken) refl (c .before .before .append-line .ensures)
 
 slice-aggregate-same-3 : tie.Need-slice-aggregate-same-3
 slice-aggregate-same-3 c = search needs
@@ -52,8 +50,8 @@ same-length-2 : tie.Need-same-length-2
 same-length-2 c = search needs
 
 returns-3 : tie.Need-returns-3
-unfolding byWord bytes
-returns-3 c = rw (sym (same-told (c .before .before .before .before .before .before .before .before .before .before .before .before .before .before .before .before .args .word .now) (bytes "replicas") _ (c .before .before .before .before .before .before .before .before .before .before .before .same .ensures)) ∙ c .before .before .before .before .before .before .before .before .before .before .if1 .left, sym (same-told (c .before .before .before .before .before .before .before .before .before .before .before .before .before .before .before .before .args .word .now) (bytes "append") _ (c .before .before .before .before .before .before .before .before .same2 .ensures)) ∙ c .before .before .before .before .before .before .before .if2 .left, sym (same-told (c .before .before .before .before .before .before .before .before .before .before .before .before .before .before .before .before .args .word .now) (bytes "greatest") _ (c .before .before .before .before .before .same3 .ensures)) ∙ c .before .before .before .before .if3 .taken) (c .before .before .greatest-line .ensures)
+unfolding byWord sameBytes bytes
+returns-3 c = by-this (vectorLine Greatest) _ _ (c .before .before .before .before .before .same3 .ensures) (c .before .before .before .before .if3 .taken) refl (c .before .before .greatest-line .ensures)
 
 slice-aggregate-same-4 : tie.Need-slice-aggregate-same-4
 slice-aggregate-same-4 c = search needs
@@ -68,8 +66,8 @@ same-length-3 : tie.Need-same-length-3
 same-length-3 c = search needs
 
 returns-4 : tie.Need-returns-4
-unfolding byWord bytes
-returns-4 c = rw (sym (same-told (c .before .before .before .before .before .before .before .before .before .before .before .before .before .before .before .before .before .before .before .args .word .now) (bytes "replicas") _ (c .before .before .before .before .before .before .before .before .before .before .before .before .before .before .same .ensures)) ∙ c .before .before .before .before .before .before .before .before .before .before .before .before .before .if1 .left, sym (same-told (c .before .before .before .before .before .before .before .before .before .before .before .before .before .before .before .before .before .before .before .args .word .now) (bytes "append") _ (c .before .before .before .before .before .before .before .before .before .before .before .same2 .ensures)) ∙ c .before .before .before .before .before .before .before .before .before .before .if2 .left, sym (same-told (c .before .before .before .before .before .before .before .before .before .before .before .before .before .before .before .before .before .before .before .args .word .now) (bytes "greatest") _ (c .before .before .before .before .before .before .before .before .same3 .ensures)) ∙ c .before .before .before .before .before .before .before .if3 .left, sym (same-told (c .before .before .before .before .before .before .before .before .before .before .before .before .before .before .before .before .before .before .before .args .word .now) (bytes "check") _ (c .before .before .before .before .before .same4 .ensures)) ∙ c .before .before .before .before .if4 .taken) (c .before .before .check-line .ensures)
+unfolding byWord sameBytes bytes
+returns-4 c = by-this (vectorLine Check) _ _ (c .before .before .before .before .before .same4 .ensures) (c .before .before .before .before .if4 .taken) refl (c .before .before .check-line .ensures)
 
 slice-aggregate-same-5 : tie.Need-slice-aggregate-same-5
 slice-aggregate-same-5 c = search needs
@@ -84,8 +82,8 @@ same-length-4 : tie.Need-same-length-4
 same-length-4 c = search needs
 
 returns-5 : tie.Need-returns-5
-unfolding byWord bytes
-returns-5 c = rw (sym (same-told (c .before .before .before .before .before .before .before .before .before .before .before .before .before .before .before .before .before .before .before .before .before .before .args .word .now) (bytes "replicas") _ (c .before .before .before .before .before .before .before .before .before .before .before .before .before .before .before .before .before .same .ensures)) ∙ c .before .before .before .before .before .before .before .before .before .before .before .before .before .before .before .before .if1 .left, sym (same-told (c .before .before .before .before .before .before .before .before .before .before .before .before .before .before .before .before .before .before .before .before .before .before .args .word .now) (bytes "append") _ (c .before .before .before .before .before .before .before .before .before .before .before .before .before .before .same2 .ensures)) ∙ c .before .before .before .before .before .before .before .before .before .before .before .before .before .if2 .left, sym (same-told (c .before .before .before .before .before .before .before .before .before .before .before .before .before .before .before .before .before .before .before .before .before .before .args .word .now) (bytes "greatest") _ (c .before .before .before .before .before .before .before .before .before .before .before .same3 .ensures)) ∙ c .before .before .before .before .before .before .before .before .before .before .if3 .left, sym (same-told (c .before .before .before .before .before .before .before .before .before .before .before .before .before .before .before .before .before .before .before .before .before .before .args .word .now) (bytes "check") _ (c .before .before .before .before .before .before .before .before .same4 .ensures)) ∙ c .before .before .before .before .before .before .before .if4 .left, sym (same-told (c .before .before .before .before .before .before .before .before .before .before .before .before .before .before .before .before .before .before .before .before .before .before .args .word .now) (bytes "flush") _ (c .before .before .before .before .before .same5 .ensures)) ∙ c .before .before .before .before .if5 .taken) (c .before .before .flush-line .ensures)
+unfolding byWord sameBytes bytes
+returns-5 c = by-this (vectorLine Flush) _ _ (c .before .before .before .before .before .same5 .ensures) (c .before .before .before .before .if5 .taken) refl (c .before .before .flush-line .ensures)
 
 slice-aggregate-same-6 : tie.Need-slice-aggregate-same-6
 slice-aggregate-same-6 c = search needs
@@ -97,8 +95,8 @@ remove-line-requires : tie.Need-remove-line-requires
 remove-line-requires c κs = search needs
 
 returns-6 : tie.Need-returns-6
-unfolding byWord bytes
-returns-6 c = rw (sym (same-told (c .before .before .before .before .before .before .before .before .before .before .before .before .before .before .before .before .before .before .before .before .before .before .args .word .now) (bytes "replicas") _ (c .before .before .before .before .before .before .before .before .before .before .before .before .before .before .before .before .before .same .ensures)) ∙ c .before .before .before .before .before .before .before .before .before .before .before .before .before .before .before .before .if1 .left, sym (same-told (c .before .before .before .before .before .before .before .before .before .before .before .before .before .before .before .before .before .before .before .before .before .before .args .word .now) (bytes "append") _ (c .before .before .before .before .before .before .before .before .before .before .before .before .before .before .same2 .ensures)) ∙ c .before .before .before .before .before .before .before .before .before .before .before .before .before .if2 .left, sym (same-told (c .before .before .before .before .before .before .before .before .before .before .before .before .before .before .before .before .before .before .before .before .before .before .args .word .now) (bytes "greatest") _ (c .before .before .before .before .before .before .before .before .before .before .before .same3 .ensures)) ∙ c .before .before .before .before .before .before .before .before .before .before .if3 .left, sym (same-told (c .before .before .before .before .before .before .before .before .before .before .before .before .before .before .before .before .before .before .before .before .before .before .args .word .now) (bytes "check") _ (c .before .before .before .before .before .before .before .before .same4 .ensures)) ∙ c .before .before .before .before .before .before .before .if4 .left, sym (same-told (c .before .before .before .before .before .before .before .before .before .before .before .before .before .before .before .before .before .before .before .before .before .before .args .word .now) (bytes "flush") _ (c .before .before .before .before .before .same5 .ensures)) ∙ c .before .before .before .before .if5 .left, sym (same-told (c .before .before .before .before .before .before .before .before .before .before .before .before .before .before .before .before .before .before .before .before .before .before .args .word .now) (bytes "remove") _ (c .before .before .same6 .ensures)) ∙ c .before .if6 .taken) (record { command = c .remove-line .ensures; content = sym (ap (λ (l : List ℕ). written l (c .before .before .before .before .before .before .before .before .before .before .before .before .before .before .before .before .before .before .before .before .before .before .args .vector .now)) (remove-none _ _)) })
+unfolding byWord sameBytes bytes
+returns-6 c = by-this (λ room. removeLine) _ _ (c .before .before .same6 .ensures) (c .before .if6 .taken) refl (tells-none _ (remove-none _ _) (c .remove-line .ensures))
 
 slice-aggregate-same-7 : tie.Need-slice-aggregate-same-7
 slice-aggregate-same-7 c = search needs
@@ -110,12 +108,21 @@ sheet-line-requires : tie.Need-sheet-line-requires
 sheet-line-requires c κs = search needs
 
 returns-7 : tie.Need-returns-7
-unfolding byWord bytes
-returns-7 c = rw (sym (same-told (c .before .before .before .before .before .before .before .before .before .before .before .before .before .before .before .before .before .before .before .before .before .before .before .before .before .args .word .now) (bytes "replicas") _ (c .before .before .before .before .before .before .before .before .before .before .before .before .before .before .before .before .before .before .before .before .same .ensures)) ∙ c .before .before .before .before .before .before .before .before .before .before .before .before .before .before .before .before .before .before .before .if1 .left, sym (same-told (c .before .before .before .before .before .before .before .before .before .before .before .before .before .before .before .before .before .before .before .before .before .before .before .before .before .args .word .now) (bytes "append") _ (c .before .before .before .before .before .before .before .before .before .before .before .before .before .before .before .before .before .same2 .ensures)) ∙ c .before .before .before .before .before .before .before .before .before .before .before .before .before .before .before .before .if2 .left, sym (same-told (c .before .before .before .before .before .before .before .before .before .before .before .before .before .before .before .before .before .before .before .before .before .before .before .before .before .args .word .now) (bytes "greatest") _ (c .before .before .before .before .before .before .before .before .before .before .before .before .before .before .same3 .ensures)) ∙ c .before .before .before .before .before .before .before .before .before .before .before .before .before .if3 .left, sym (same-told (c .before .before .before .before .before .before .before .before .before .before .before .before .before .before .before .before .before .before .before .before .before .before .before .before .before .args .word .now) (bytes "check") _ (c .before .before .before .before .before .before .before .before .before .before .before .same4 .ensures)) ∙ c .before .before .before .before .before .before .before .before .before .before .if4 .left, sym (same-told (c .before .before .before .before .before .before .before .before .before .before .before .before .before .before .before .before .before .before .before .before .before .before .before .before .before .args .word .now) (bytes "flush") _ (c .before .before .before .before .before .before .before .before .same5 .ensures)) ∙ c .before .before .before .before .before .before .before .if5 .left, sym (same-told (c .before .before .before .before .before .before .before .before .before .before .before .before .before .before .before .before .before .before .before .before .before .before .before .before .before .args .word .now) (bytes "remove") _ (c .before .before .before .before .before .same6 .ensures)) ∙ c .before .before .before .before .if6 .left, sym (same-told (c .before .before .before .before .before .before .before .before .before .before .before .before .before .before .before .before .before .before .before .before .before .before .before .before .before .args .word .now) (bytes "sheet") _ (c .before .before .same7 .ensures)) ∙ c .before .if7 .taken) (record { command = c .sheet-line .ensures; content = sym (ap (λ (l : List ℕ). written l (c .before .before .before .before .before .before .before .before .before .before .before .before .before .before .before .before .before .before .before .before .before .before .before .before .before .args .vector .now)) (sheet-none _ _)) })
+unfolding byWord sameBytes bytes
+returns-7 c = by-this (λ room. sheetLine) _ _ (c .before .before .same7 .ensures) (c .before .if7 .taken) refl (tells-none _ (sheet-none _ _) (c .sheet-line .ensures))
 
 returns-8 : tie.Need-returns-8
 unfolding byWord bytes
-returns-8 c = rw (sym (same-told (c .before .before .before .before .before .before .before .before .before .before .before .before .before .before .before .before .before .before .before .before .before .before .before .before .args .word .now) (bytes "replicas") _ (c .before .before .before .before .before .before .before .before .before .before .before .before .before .before .before .before .before .before .before .same .ensures)) ∙ c .before .before .before .before .before .before .before .before .before .before .before .before .before .before .before .before .before .before .if1 .left, sym (same-told (c .before .before .before .before .before .before .before .before .before .before .before .before .before .before .before .before .before .before .before .before .before .before .before .before .args .word .now) (bytes "append") _ (c .before .before .before .before .before .before .before .before .before .before .before .before .before .before .before .before .same2 .ensures)) ∙ c .before .before .before .before .before .before .before .before .before .before .before .before .before .before .before .if2 .left, sym (same-told (c .before .before .before .before .before .before .before .before .before .before .before .before .before .before .before .before .before .before .before .before .before .before .before .before .args .word .now) (bytes "greatest") _ (c .before .before .before .before .before .before .before .before .before .before .before .before .before .same3 .ensures)) ∙ c .before .before .before .before .before .before .before .before .before .before .before .before .if3 .left, sym (same-told (c .before .before .before .before .before .before .before .before .before .before .before .before .before .before .before .before .before .before .before .before .before .before .before .before .args .word .now) (bytes "check") _ (c .before .before .before .before .before .before .before .before .before .before .same4 .ensures)) ∙ c .before .before .before .before .before .before .before .before .before .if4 .left, sym (same-told (c .before .before .before .before .before .before .before .before .before .before .before .before .before .before .before .before .before .before .before .before .before .before .before .before .args .word .now) (bytes "flush") _ (c .before .before .before .before .before .before .before .same5 .ensures)) ∙ c .before .before .before .before .before .before .if5 .left, sym (same-told (c .before .before .before .before .before .before .before .before .before .before .before .before .before .before .before .before .before .before .before .before .before .before .before .before .args .word .now) (bytes "remove") _ (c .before .before .before .before .same6 .ensures)) ∙ c .before .before .before .if6 .left, sym (same-told (c .before .before .before .before .before .before .before .before .before .before .before .before .before .before .before .before .before .before .before .before .before .before .before .before .args .word .now) (bytes "sheet") _ (c .before .same7 .ensures)) ∙ c .if7 .left) (record { command = refl; content = refl })
+returns-8 c = let x = c .before .before .before .before .before .before .before .before .before .before .before .before .before .before .before .before .before .before .before .before .before .before .before .before .args .word .now in
+    rw (
+      unmet x (bytes "replicas") (c .before .before .before .before .before .before .before .before .before .before .before .before .before .before .before .before .before .before .before .same .ensures) (c .before .before .before .before .before .before .before .before .before .before .before .before .before .before .before .before .before .before .if1 .left),
+      unmet x (bytes "append") (c .before .before .before .before .before .before .before .before .before .before .before .before .before .before .before .before .same2 .ensures) (c .before .before .before .before .before .before .before .before .before .before .before .before .before .before .before .if2 .left),
+      unmet x (bytes "greatest") (c .before .before .before .before .before .before .before .before .before .before .before .before .before .same3 .ensures) (c .before .before .before .before .before .before .before .before .before .before .before .before .if3 .left),
+      unmet x (bytes "check") (c .before .before .before .before .before .before .before .before .before .before .same4 .ensures) (c .before .before .before .before .before .before .before .before .before .if4 .left),
+      unmet x (bytes "flush") (c .before .before .before .before .before .before .before .same5 .ensures) (c .before .before .before .before .before .before .if5 .left),
+      unmet x (bytes "remove") (c .before .before .before .before .same6 .ensures) (c .before .before .before .if6 .left),
+      unmet x (bytes "sheet") (c .before .same7 .ensures) (c .if7 .left),
+    ) (record { command = refl; content = refl })
 
 pub by-word-spec : {M : Type 1} → statement M
 by-word-spec =

@@ -15,11 +15,11 @@ Inv-loop s from out₀ limit at₀ n₀ out at n = (limit ≡ most (length out�
 abbrev μ-loop : tie.MeasureT-loop
 μ-loop s from out₀ limit at₀ n₀ out at n = limit - n
 
-least-requires : tie.Need-least-requires Inv-loop μ-loop
-least-requires c κs = tt
+smaller-requires : tie.Need-smaller-requires Inv-loop μ-loop
+smaller-requires c κs = tt
 
 loop-holds : tie.Need-loop-holds Inv-loop μ-loop
-loop-holds c = (c .least .ensures, passed-start _ _ _ _)
+loop-holds c = (c .smaller .ensures, passed-start _ _ _ _)
 
 spaced-number-requires : tie.Need-spaced-number-requires Inv-loop μ-loop
 spaced-number-requires c κs = tt
@@ -66,7 +66,7 @@ read-entries-spec =
     (tie.spec
     Inv-loop
     μ-loop
-    least-requires
+    smaller-requires
     loop-holds
     spaced-number-requires
     enum-known-number

@@ -5,7 +5,7 @@ use Prim.Native.Nat.{ℕ}
 use lib.Dec.{ltb, lit<}
 use borrow.Author.Needs.{needs}
 use Rattle.positions.specs.Members.{has}
-use Rattle.positions.proofs.Words.{four, has-at, has-first, has-out}
+use Rattle.positions.proofs.Words.{four, has-at, has-first, has-out, less-below}
 use Rattle.positions.proofs.Positions.below.Statement.{statement}
 use Rattle.positions.proofs.Positions.below.Tie as tie
 
@@ -46,9 +46,9 @@ returns : tie.Need-returns
 returns c = let a = c .before .before .before .before .before .before .before .before .args in
     four _ _ _ _ (λ (k : ℕ). has (a .self) k && ltb k (a .n))
     (λ k p. c .before .before .before .before .before .before .below .ensures k p ∙ ap (λ (x : Bool). x && ltb k (a .n)) (sym (has-first (a .self) k p)))
-    (λ k p. c .before .before .before .before .below2 .ensures k p ∙ ap₂ (λ (x y : Bool). x && y) (sym (has-at (a .self) 1 k (lit< tt) p)) (c .before .before .before .before .before .less .ensures k))
-    (λ k p. c .before .before .below3 .ensures k p ∙ ap₂ (λ (x y : Bool). x && y) (sym (has-at (a .self) 2 k (lit< tt) p)) (c .before .before .before .less2 .ensures k))
-    (λ k p. c .below4 .ensures k p ∙ ap₂ (λ (x y : Bool). x && y) (sym (has-at (a .self) 3 k (lit< tt) p)) (c .before .less3 .ensures k))
+    (λ k p. c .before .before .before .before .below2 .ensures k p ∙ ap₂ (λ (x y : Bool). x && y) (sym (has-at (a .self) 1 k (lit< tt) p)) (less-below (a .n) 64 k (c .before .before .before .before .before .less .ensures)))
+    (λ k p. c .before .before .below3 .ensures k p ∙ ap₂ (λ (x y : Bool). x && y) (sym (has-at (a .self) 2 k (lit< tt) p)) (less-below (a .n) 128 k (c .before .before .before .less2 .ensures)))
+    (λ k p. c .below4 .ensures k p ∙ ap₂ (λ (x y : Bool). x && y) (sym (has-at (a .self) 3 k (lit< tt) p)) (less-below (a .n) 192 k (c .before .less3 .ensures)))
     (λ k p. rw (has-out (a .self) k p))
 
 pub below-spec : {M : Type 1} → statement M

@@ -31,17 +31,17 @@ add-at-3 c = search needs
 at-requires-4 : tie.Need-at-requires-4
 at-requires-4 c κs = search needs
 
-lowered-requires : tie.Need-lowered-requires
-lowered-requires c κs = search needs
+joined-requires : tie.Need-joined-requires
+joined-requires c κs = search needs
 
-lowered-requires-2 : tie.Need-lowered-requires-2
-lowered-requires-2 c κs = search needs
+joined-requires-2 : tie.Need-joined-requires-2
+joined-requires-2 c κs = search needs
 
-lowered-requires-3 : tie.Need-lowered-requires-3
-lowered-requires-3 c κs = search needs
+joined-requires-3 : tie.Need-joined-requires-3
+joined-requires-3 c κs = search needs
 
-lowered-requires-4 : tie.Need-lowered-requires-4
-lowered-requires-4 c κs = search needs
+joined-requires-4 : tie.Need-joined-requires-4
+joined-requires-4 c κs = search needs
 
 returns : tie.Need-returns
 returns c = let a = c .before .before .before .before .before .before .before .before .before .args in
@@ -53,10 +53,10 @@ returns c = let a = c .before .before .before .before .before .before .before .b
     let e3 = c .before .before .before .before .at4 .ensures in
     let e4 = sym (List·getD-eq-default ws 0 {n = a .n / 64 + 4} (omega arith)) in
     four _ _ _ _ (λ (k : ℕ). has (a .self) (k + a .n))
-    (λ k p. rw zero-add at (lowered-at (a .self) (a .n) 0 _ _ _ l e0 e1 (c .before .before .before .lowered .ensures) k p))
-    (lowered-at (a .self) (a .n) 1 _ _ _ l e1 e2 (c .before .before .lowered2 .ensures))
-    (lowered-at (a .self) (a .n) 2 _ _ _ l e2 e3 (c .before .lowered3 .ensures))
-    (lowered-at (a .self) (a .n) 3 _ _ _ l e3 e4 (c .lowered4 .ensures))
+    (λ k p. rw zero-add at (lowered-at (a .self) (a .n) 0 _ _ _ l e0 e1 (c .before .before .before .joined .ensures) (search needs) k p))
+    (lowered-at (a .self) (a .n) 1 _ _ _ l e1 e2 (c .before .before .joined2 .ensures) (search needs))
+    (lowered-at (a .self) (a .n) 2 _ _ _ l e2 e3 (c .before .joined3 .ensures) (search needs))
+    (lowered-at (a .self) (a .n) 3 _ _ _ l e3 e4 (c .joined4 .ensures) (search needs))
     (λ k p. has-out (a .self) (k + a .n) (omega arith))
 
 pub lowered-spec : {M : Type 1} → statement M
@@ -70,8 +70,8 @@ lowered-spec =
     at-requires-3
     add-at-3
     at-requires-4
-    lowered-requires
-    lowered-requires-2
-    lowered-requires-3
-    lowered-requires-4
+    joined-requires
+    joined-requires-2
+    joined-requires-3
+    joined-requires-4
     returns)

@@ -2,7 +2,7 @@
 use Prim.Native.Nat.{_≤_}
 use mathlib.Core.Path.{_≡_, refl, _∙_, sym}
 use lib.ListN.{length, length-set}
-use Rattle.text.specs.Numbers.{writtenBack}
+use Rattle.text.specs.Inner.{writtenBack}
 use Rattle.text.proofs.Spelling.{back-turn}
 use native.Mathlib.Omega.{arith}
 use borrow.Author.Needs.{needs}

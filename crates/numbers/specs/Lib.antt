@@ -1,0 +1,2 @@
+-- What the contracts of `numbers` cite.
+pub mod Words

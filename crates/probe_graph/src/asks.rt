@@ -1,0 +1,64 @@
+// The graph words that answer one value.
+use clocks::id::EventId;
+use clocks::refusal::BAD_LINE;
+use graph::EventGraph;
+use graph::Found;
+use graph::Order;
+use graph::Told;
+use positions::NodeIndex;
+use probe_text::answers::Answer;
+use probe_text::answers::yes_no;
+use probe_text::values::id;
+use probe_text::words::row;
+
+const GET: usize = 0;
+
+const ORDER: usize = 1;
+
+const IS_CRITICAL: usize = 2;
+
+const LEN: usize = 3;
+
+const IS_EMPTY: usize = 4;
+
+fn word(line: &[u8], kinds: &[u8], values: &[usize]) -> usize {
+    row(
+        b"g.get:i g.order:i g.is-critical:v g.len: g.is-empty:",
+        line,
+        kinds,
+        values,
+    )
+}
+
+pub fn asked(g: EventGraph, line: &[u8], kinds: &[u8], values: &[usize]) -> Answer {
+    match word(line, kinds, values) {
+        GET => found(g.get(id(kinds, values))),
+        ORDER => order(g.delivery_order(id(kinds, values))),
+        IS_CRITICAL => told(g.is_critical(values)),
+        LEN => Answer::Number(g.len()),
+        IS_EMPTY => yes_no(g.is_empty()),
+        _ => Answer::Bare(BAD_LINE),
+    }
+}
+
+fn found(f: Found) -> Answer {
+    match f {
+        Found::Op(op) => Answer::Event(op),
+        Found::NotFound => Answer::Absent,
+    }
+}
+
+fn order(o: Order) -> Answer {
+    match o {
+        Order::At(i) => Answer::Number(i.0),
+        Order::NotHeld => Answer::Absent,
+    }
+}
+
+fn told(t: Told) -> Answer {
+    match t {
+        Told::Yes => yes_no(true),
+        Told::No => yes_no(false),
+        Told::Refused(r) => Answer::Bare(r),
+    }
+}

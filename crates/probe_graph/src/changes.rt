@@ -1,0 +1,145 @@
+// The graph words that hand back a graph. A refusal's graph is looked at, and kept as it comes, so a change would show in what is asked next too.
+use crate::Log;
+use clocks::refusal::ACCEPTED;
+use clocks::refusal::BAD_LINE;
+use graph::EventGraph;
+use graph::GraphAnswer;
+use graph::Removed;
+use numbers::entry;
+use probe_text::answers::Answer;
+use probe_text::parts::bytes;
+use probe_text::values::event;
+use probe_text::values::id;
+use probe_text::values::mask;
+use probe_text::values::vector;
+use probe_text::words::row;
+
+const NEW: usize = 0;
+
+const FROM: usize = 1;
+
+const APPEND: usize = 2;
+
+const FLUSH: usize = 3;
+
+const REMOVE: usize = 4;
+
+const RETAIN: usize = 5;
+
+// The answer, whether a refusal changed the log, and the log.
+pub struct Change {
+    pub answer: Answer,
+    pub changed: bool,
+    pub log: Log,
+}
+
+pub fn word(line: &[u8], kinds: &[u8], values: &[usize]) -> usize {
+    row(
+        b"g.new:n g.from:nv g.append:innv g.flush:v g.remove:i g.retain:m g.clear:",
+        line,
+        kinds,
+        values,
+    )
+}
+
+pub fn called(word: usize, log: Log, kinds: &[u8], values: &[usize]) -> Change {
+    let r = entry(values, 0);
+    match word {
+        NEW => created(log, EventGraph::new(r)),
+        FROM => created(
+            log,
+            EventGraph::from_checkpoint(r, vector(kinds, values, 1)),
+        ),
+        _ => of_made(word, log, kinds, values),
+    }
+}
+
+fn of_made(word: usize, log: Log, kinds: &[u8], values: &[usize]) -> Change {
+    if log.made {
+        return turned(word, log, kinds, values);
+    }
+    unchanged(log, BAD_LINE)
+}
+
+fn turned(word: usize, log: Log, kinds: &[u8], values: &[usize]) -> Change {
+    let g = log.graph;
+    match word {
+        APPEND => appended(g, g.append(event(kinds, values), vector(kinds, values, 5))),
+        FLUSH => removed(g, g.prune_predecessors(values)),
+        REMOVE => removed(g, g.remove(id(kinds, values))),
+        RETAIN => retained(g, values),
+        _ => removed(g, g.clear()),
+    }
+}
+
+// A refusal that leaves the log that was there.
+fn unchanged(log: Log, refusal: usize) -> Change {
+    Change {
+        answer: Answer::Bare(refusal),
+        changed: false,
+        log,
+    }
+}
+
+// A new log, or the refusal and the log that was there.
+fn created(log: Log, a: GraphAnswer) -> Change {
+    if a.refusal != ACCEPTED {
+        return unchanged(log, a.refusal);
+    }
+    accepted(Answer::Bare(ACCEPTED), a.graph)
+}
+
+fn accepted(answer: Answer, graph: EventGraph) -> Change {
+    Change {
+        answer,
+        changed: false,
+        log: Log { made: true, graph },
+    }
+}
+
+// A refusal with the graph that it handed back.
+fn refused(before: EventGraph, refusal: usize, graph: EventGraph) -> Change {
+    Change {
+        answer: Answer::Bare(refusal),
+        changed: differ(before, graph),
+        log: Log { made: true, graph },
+    }
+}
+
+fn appended(before: EventGraph, a: GraphAnswer) -> Change {
+    if a.refusal != ACCEPTED {
+        return refused(before, a.refusal, a.graph);
+    }
+    accepted(Answer::Bare(ACCEPTED), a.graph)
+}
+
+fn removed(before: EventGraph, a: Removed) -> Change {
+    if a.refusal != ACCEPTED {
+        return refused(before, a.refusal, a.graph);
+    }
+    accepted(Answer::Number(a.count), a.graph)
+}
+
+// `g.retain M`
+fn retained(g: EventGraph, values: &[usize]) -> Change {
+    let keep = mask(values);
+    removed(g, g.retain(bytes(&keep, 0, values.len())))
+}
+
+// Whether two graphs tell another number of events, another named or other roots.
+fn differ(a: EventGraph, b: EventGraph) -> bool {
+    if a.len() != b.len() {
+        return true;
+    }
+    let named = a.named();
+    if !named.eq(b.named()) {
+        return true;
+    }
+    let roots = a.roots();
+    let others = b.roots();
+    if roots.found != others.found {
+        return true;
+    }
+    let f = roots.frontier;
+    !f.eq(others.frontier)
+}
