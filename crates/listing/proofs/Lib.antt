@@ -5,3 +5,4 @@ pub mod Laying
 pub mod Shown
 pub mod Said
 pub mod SaidLines
+pub mod Telling

@@ -14,6 +14,7 @@ use Rattle.text.specs.Numbers.{isDigit, digitsIn, numberAt, placesUpTo, places,
 use Rattle.text.proofs.ReadBack.{digits-last, read-back}
 use Rattle.listing.specs.Commands.{spacedNumber, spacedTag, spacedId, entries, entriesEnd}
 use Rattle.listing.specs.Laying.{joined, spaced}
+use Rattle.listing.specs.Sheets.{SmallTag, SmallId}
 use Rattle.clocks.specs.declared.id.Disambiguator.{Disambiguator}
 use Rattle.clocks.specs.declared.id.Disambiguator.the-variants.{Absent, Number as number}
 use Rattle.clocks.specs.declared.id.EventId.{EventId}
@@ -85,11 +86,6 @@ abbrev pub tagText : Disambiguator → List ℕ
 tagText Absent = 32 ∷ 45 ∷ []
 tagText (number d) = 32 ∷ spelled d
 
--- below 2^32
-abbrev pub SmallTag : Disambiguator → Type 0
-SmallTag Absent = Unit {0}
-SmallTag (number d) = d < 2 ^ 32
-
 digits-tag : (d : Disambiguator) (rest : List ℕ) → digitsIn (tagText d ++ rest) ≡ 0
 unfolding digitsIn
 digits-tag Absent rest = refl
@@ -114,7 +110,7 @@ places-some (suc most) n h = by (ltb n 10)
     by false = omega arith
 
 -- a number does not start with a dash
-no-dash : (n : ℕ) (rest : List ℕ) → getD (spelled n ++ rest) 0 0 ≡ 45 → ⊥
+pub no-dash : (n : ℕ) (rest : List ℕ) → getD (spelled n ++ rest) 0 0 ≡ 45 → ⊥
 unfolding spelled places
 no-dash n rest e =
     let some : 0 < digitsIn (lastDigits (placesUpTo 20 n) n ++ rest) = omega (arith, digits-last (placesUpTo 20 n) n rest, places-some 20 n (omega arith)) in
@@ -139,9 +135,6 @@ tag-at s rest at (number d) e small z =
 -- O S D, each after a space, and what follows
 abbrev pub idThen : EventId → List ℕ → List ℕ
 idThen id rest = 32 ∷ (spelled (id .idx .0) ++ (32 ∷ (spelled (id .seq) ++ (tagText (id .disambiguator) ++ rest))))
-
-abbrev pub SmallId : EventId → Type 0
-SmallId id = (id .idx .0 < 2 ^ 64) × (id .seq < 2 ^ 64) × SmallTag (id .disambiguator)
 
 pub id-at : (s rest : List ℕ) (at : ℕ) (id : EventId) → drop at s ≡ idThen id rest → SmallId id → digitsIn rest ≡ 0
     → (next : ℕ) × (spacedId s at ≡ Id id next) × (drop next s ≡ rest)

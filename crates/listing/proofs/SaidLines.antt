@@ -10,6 +10,7 @@ use Rattle.text.specs.Bytes.{bytesBefore}
 use Rattle.text.proofs.Spelling.{digits-le}
 use Rattle.listing.specs.Commands.{replicasLine, removeLine, sheetLine, vectorLine, vectorAt, appendLine, byWord, lineTold}
 use Rattle.listing.specs.Laying.{joined, spaced}
+use Rattle.listing.specs.Sheets.{SmallId}
 use Rattle.listing.specs.Words.{bytes, sameBytes}
 use Rattle.clocks.specs.declared.id.Disambiguator.{Disambiguator}
 use Rattle.clocks.specs.declared.id.Disambiguator.the-variants.{Absent, Number as number}
@@ -18,7 +19,7 @@ use Rattle.listing.specs.declared.command.Command.{Command}
 use Rattle.listing.specs.declared.command.Command.the-variants.{Replicas, Append, Greatest, Check, Flush, Remove, Sheet}
 use Rattle.listing.specs.declared.command.Read.the-variants.{Line}
 use Rattle.listing.proofs.Laying.{size-spaced}
-use Rattle.listing.proofs.Said.{text, Small, tagText, idThen, SmallId, spaced-at, end-left, digits-text, entries-at, id-at}
+use Rattle.listing.proofs.Said.{text, Small, tagText, idThen, spaced-at, end-left, digits-text, entries-at, id-at}
 
 -- a vector that a line can give: 1 to 16 entries below 2^64
 pub record Sayable (v : List ℕ) : Type 0 where

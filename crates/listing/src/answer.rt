@@ -13,14 +13,14 @@ use numbers::smaller;
 use text::bytes::put;
 use text::number::write_number;
 
-fn decimal(out: &mut [u8], at: usize, n: usize) -> usize
+pub(super) fn decimal(out: &mut [u8], at: usize, n: usize) -> usize
     ensures { λ r. ⌜ Laid (now (out .entry)) at (spelled n ∷ []) (now (out .exit)) r ⌝ }
 {
     write_number(out, at, n as u64)
 }
 
 // A number after a space.
-fn spaced_decimal(out: &mut [u8], at: usize, n: usize) -> usize
+pub(super) fn spaced_decimal(out: &mut [u8], at: usize, n: usize) -> usize
     ensures { λ r. ⌜ Laid (now (out .entry)) at (spaced (n ∷ [])) (now (out .exit)) r ⌝ }
 {
     let at = put(out, at, b" ");
@@ -39,7 +39,7 @@ fn spaced_decimals(out: &mut [u8], at: usize, list: &[usize]) -> usize
 }
 
 // The numbers behind a line's first piece, and its end.
-fn line_rest(out: &mut [u8], at: usize, list: &[usize]) -> usize
+pub(super) fn line_rest(out: &mut [u8], at: usize, list: &[usize]) -> usize
     ensures { λ r. ⌜ Laid (now (out .entry)) at (spaced (now (list .entry)) ++ (newline ∷ [])) (now (out .exit)) r ⌝ }
 {
     let at = spaced_decimals(out, at, list);

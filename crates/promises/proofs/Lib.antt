@@ -1,5 +1,5 @@
--- The proofs of the statements: on every reached graph what is documented holds, two logs agree, what one desk's trace answers, and that no
--- second answer fits a contract.
+-- The proofs of the statements: on every reached graph what is documented holds, two logs agree, a sheet tells ids apart, what one desk's trace
+-- answers, and that no second answer fits a contract.
 pub mod LogOk
 pub mod AppendLog
 pub mod RemainLog
@@ -17,6 +17,7 @@ pub mod WhatIsHeld
 pub mod HeldAppends
 pub mod HeldFlushes
 pub mod Demand3
+pub mod Printed
 pub mod OwnTrace
 pub mod OneAnswer
 pub mod OneAnswerSets

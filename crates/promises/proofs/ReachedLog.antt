@@ -37,11 +37,11 @@ empty-log g W h ok notes = record {
   first = λ i k l m c. absurd (omega (arith, h));
 }
 
-created-held : (r : ℕ) → graphs.created r .graph .held ≡ 0
+pub created-held : (r : ℕ) → graphs.created r .graph .held ≡ 0
 unfolding graphs.created
 created-held r = refl
 
-checkpointed-held : (r : ℕ) (v : List ℕ) → graphs.checkpointed r v .graph .held ≡ 0
+pub checkpointed-held : (r : ℕ) (v : List ℕ) → graphs.checkpointed r v .graph .held ≡ 0
 unfolding graphs.checkpointed
 checkpointed-held r v = ⊎-elim
     (λ (t : eqb (fromEntries r v .refusal) 0 ≡ true). rw t)

@@ -1,4 +1,5 @@
--- Statements about whole logs: what calls reach, demand 3, and what is documented.
+-- Statements about whole logs: what calls reach, demand 3, what is documented, and what a sheet tells apart.
 pub mod Reached
 pub mod Demand
 pub mod Documented
+pub mod Printed

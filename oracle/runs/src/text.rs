@@ -24,12 +24,12 @@ pub fn event_words(event: &Event) -> String {
     format!("{} {lamport} {payload} {}", id_words(id), spaced(version))
 }
 
-/// A mask line; an empty mask is the bare word.
-pub fn mask_line(word: &str, mask: &[u64]) -> String {
-    if mask.is_empty() {
+/// A word with numbers after it; where there are none, the bare word.
+pub fn numbers_line(word: &str, numbers: &[u64]) -> String {
+    if numbers.is_empty() {
         word.to_string()
     } else {
-        format!("{word} {}", spaced(mask))
+        format!("{word} {}", spaced(numbers))
     }
 }
 

@@ -5,10 +5,14 @@ use std::io::{self, BufRead, BufWriter, Write};
 
 use moirai_protocol::{
     broadcast::internalizer::Resolver,
-    clock::{causal_frontier::CausalFrontier, version_vector::Version},
-    event::{Event, id::EventId, lamport::Lamport},
-    replica::{ReplicaId, ReplicaIdx},
-    state::unstable_state::{IsUnstableCausal, IsUnstableCore, IsUnstablePrune, event_graph::EventGraph},
+    state::unstable_state::{
+        IsUnstableCausal, IsUnstableCore, IsUnstableDelivery, IsUnstablePrune, event_graph::EventGraph,
+    },
+};
+use runs::{
+    lines::{Event, Id},
+    original::{cuts, event_id, frontier, id_of, original_event, resolver},
+    text::{id_words, numbers_line},
 };
 
 struct Desk {
@@ -17,36 +21,21 @@ struct Desk {
 }
 
 impl Desk {
-    fn new(replicas: usize) -> Self {
+    fn new(replicas: u64) -> Self {
         Self {
-            names: Resolver::new((0..replicas).map(|i| ReplicaId(format!("desk{i}"))).collect()),
+            names: resolver(replicas),
             log: EventGraph::default(),
         }
     }
 
-    fn frontier(&self, entries: &[u64]) -> CausalFrontier {
-        let mut frontier = CausalFrontier::new(self.names.clone());
-        for (i, &entry) in entries.iter().enumerate() {
-            frontier.set_by_idx(ReplicaIdx(i), entry as usize);
-        }
-        frontier
-    }
-
-    fn id(&self, numbers: &[u64], disambiguator: Option<u32>) -> EventId {
-        EventId::new_with_disambiguator(
-            ReplicaIdx(numbers[0] as usize),
-            numbers[1] as usize,
-            self.names.clone(),
-            disambiguator,
-        )
-    }
-
-    fn append(&mut self, id: EventId, numbers: &[u64]) {
-        let mut version = Version::new(id.idx(), self.names.clone());
-        for (i, &entry) in numbers[2..].iter().enumerate() {
-            version.set_by_idx(ReplicaIdx(i), entry as usize);
-        }
-        self.log.append(Event::new(id, Lamport(numbers[0]), numbers[1], version));
+    fn append(&mut self, id: Id, numbers: &[u64]) {
+        let event = Event {
+            id,
+            lamport: numbers[0],
+            payload: numbers[1],
+            version: numbers[2..].to_vec(),
+        };
+        self.log.append(original_event(&self.names, &event));
     }
 
     fn removed(&mut self, change: impl FnOnce(&mut EventGraph<u64>)) -> usize {
@@ -54,11 +43,45 @@ impl Desk {
         change(&mut self.log);
         before - self.log.len()
     }
+
+    fn heads(&self) -> Vec<u64> {
+        let heads = self.log.frontier();
+        let positions = heads.iter().filter_map(|head| self.log.delivery_order(head.id()));
+        let mut positions: Vec<u64> = positions.map(|position| position as u64).collect();
+        positions.sort();
+        positions
+    }
+
+    fn sheet(&self, out: &mut impl Write) -> io::Result<()> {
+        let (heads, cuts) = (self.heads(), cuts(&self.log));
+        writeln!(out, "0\n{} {} {}", self.log.len(), heads.len(), cuts.len())?;
+        for (position, event) in self.log.iter().enumerate() {
+            let id = id_words(&id_of(event.id()));
+            writeln!(out, "{position} {id} {} {}", event.lamport().0, event.op())?;
+        }
+        writeln!(
+            out,
+            "{}\n{}",
+            numbers_line("heads", &heads),
+            numbers_line("cuts", &cuts)
+        )
+    }
 }
 
-/// The numbers of a line's tokens; an absent disambiguator counts for none.
+/// The numbers that end a line.
 fn numbers<'a>(tokens: impl Iterator<Item = &'a str>) -> Option<Vec<u64>> {
     tokens.map(|t| t.parse().ok()).collect()
+}
+
+fn id<'a>(tokens: &mut impl Iterator<Item = &'a str>) -> Option<Id> {
+    Some(Id {
+        replica: tokens.next()?.parse().ok()?,
+        sequence: tokens.next()?.parse().ok()?,
+        disambiguator: match tokens.next()? {
+            "-" => None,
+            number => Some(number.parse().ok()?),
+        },
+    })
 }
 
 fn answer(desk: &mut Option<Desk>, line: &str, out: &mut impl Write) -> Option<io::Result<()>> {
@@ -69,18 +92,19 @@ fn answer(desk: &mut Option<Desk>, line: &str, out: &mut impl Write) -> Option<i
         return Some(writeln!(out, "0"));
     }
     let desk = desk.as_mut()?;
+    if line == "sheet" {
+        return Some(desk.sheet(out));
+    }
     if word == "append" || word == "remove" {
-        let place = [tokens.next()?.parse().ok()?, tokens.next()?.parse().ok()?];
-        let tag = tokens.next()?;
-        let tag = if tag == "-" { None } else { Some(tag.parse().ok()?) };
-        let id = desk.id(&place, tag);
+        let id = id(&mut tokens)?;
         if word == "remove" {
+            let id = event_id(&desk.names, &id);
             return Some(writeln!(out, "0 {}", desk.removed(|log| log.remove(&id))));
         }
         desk.append(id, &numbers(tokens)?);
         return Some(writeln!(out, "0"));
     }
-    let frontier = desk.frontier(&numbers(tokens)?);
+    let frontier = frontier(&desk.names, &numbers(tokens)?);
     Some(match word {
         "greatest" => match desk.log.greatest_critical_frontier(&frontier) {
             None => writeln!(out, "0 -"),

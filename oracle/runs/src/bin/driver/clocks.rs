@@ -6,9 +6,10 @@ use moirai_protocol::replica::ReplicaIdx;
 use runs::{
     answer::Answer,
     lines::{Clock, TOP},
+    original::*,
 };
 
-use crate::original::*;
+use crate::reply::bad_vector;
 
 /// The refusals that need no panic of the original.
 pub fn refusal(replicas: u64, call: &Clock) -> Option<u64> {

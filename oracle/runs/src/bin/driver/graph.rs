@@ -13,9 +13,10 @@ use moirai_protocol::{
 use runs::{
     answer::Answer,
     lines::{Call, Id, Vector},
+    original::*,
 };
 
-use crate::original::*;
+use crate::reply::*;
 
 #[derive(Clone)]
 pub struct Graph {
@@ -97,7 +98,7 @@ impl Graph {
                 heads.sort_by_key(|head| self.log.delivery_order(head.id()));
                 Answer::Events(events_of(&heads)).into()
             }
-            Call::Cuts => Answer::Lengths(self.cuts()).into(),
+            Call::Cuts => Answer::Lengths(cuts(&self.log)).into(),
             Call::Order(id) => {
                 let position = self.log.delivery_order(&event_id(&self.names, id));
                 Answer::Position(position.map(|p| p as u64)).into()
@@ -133,14 +134,6 @@ impl Graph {
             Call::Retain(mask) => (mask.len() != self.log.len() || mask.iter().any(|&keep| keep > 1)).then_some(15),
             _ => None,
         }
-    }
-
-    /// The original keeps its cuts to itself, so they are read off what it derives for `Debug`, as its last field.
-    fn cuts(&self) -> Vec<u64> {
-        numbers_after(&format!("{:?}", self.log), "critical_versions: [").unwrap_or_else(|| {
-            eprintln!("driver: no cuts in the Debug text of the graph");
-            std::process::exit(2)
-        })
     }
 
     fn removing(&mut self, change: impl FnOnce(&mut EventGraph<u64>, &Resolver)) -> Reply {

@@ -13,9 +13,10 @@ use moirai_protocol::{
 use runs::{
     answer::Answer,
     lines::{Call, Event, Id, Vector},
+    original::*,
 };
 
-use crate::original::*;
+use crate::reply::*;
 
 #[derive(Clone)]
 pub struct History {

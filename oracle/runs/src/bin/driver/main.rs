@@ -13,7 +13,7 @@
 mod clocks;
 mod graph;
 mod history;
-mod original;
+mod reply;
 
 use std::{
     io::{self, BufWriter, Read, Write},
@@ -22,7 +22,7 @@ use std::{
 
 use graph::Graph;
 use history::History;
-use original::{Reply, bad_count, bad_vector};
+use reply::{Reply, bad_count, bad_vector};
 use runs::{
     answer::Answer,
     lines::{self, Call, Clock, Command},

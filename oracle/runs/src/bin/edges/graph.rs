@@ -2,7 +2,7 @@
 
 use runs::{
     lines::TOP,
-    text::{mask_line, spaced},
+    text::{numbers_line, spaced},
 };
 
 use crate::{NUMBERS, at_each_room, vectors};
@@ -189,15 +189,15 @@ fn full(filler: fn(u64) -> String, lines: &mut Vec<String>) {
         format!("g.flush {zeros}"),
     ]);
     for length in [0, 255, 257, 2043] {
-        lines.push(mask_line("g.retain", &vec![1; length]));
+        lines.push(numbers_line("g.retain", &vec![1; length]));
     }
     for byte in [2, 255, 256] {
-        lines.push(mask_line("g.retain", &[&[1; 255][..], &[byte]].concat()));
+        lines.push(numbers_line("g.retain", &[&[1; 255][..], &[byte]].concat()));
     }
-    lines.push(mask_line("g.retain", &[1; 256]));
+    lines.push(numbers_line("g.retain", &[1; 256]));
     // Room freed serves again.
     let every_third: Vec<u64> = (0..256).map(|i| u64::from(i % 3 > 0)).collect();
-    lines.push(mask_line("g.retain", &every_third));
+    lines.push(numbers_line("g.retain", &every_third));
     lines.extend((256..270).map(|i| format!("g.append {}", filler(i))));
     look(lines);
     lines.extend(["g.clear", "g.clear"].map(str::to_string));

@@ -2,7 +2,7 @@
 
 use runs::{
     lines::TOP,
-    text::{mask_line, spaced, up_to},
+    text::{numbers_line, spaced, up_to},
 };
 
 use crate::{NUMBERS, at_each_room, vectors};
@@ -95,14 +95,14 @@ fn masks(lines: &mut Vec<String>) {
         for mask in up_to(&vec![1; length]) {
             h(lines);
             lines.extend([
-                mask_line("h.retain", &mask),
+                numbers_line("h.retain", &mask),
                 "h.iter".to_string(),
                 "h.last-version 0".to_string(),
             ]);
         }
     }
     for mask in [[1, 0, 2, 1], [2, 0, 0, 0], [0, 0, 0, 255], [1, 0, 1, 256]] {
-        lines.extend([mask_line("h.retain", &mask), "h.len".to_string()]);
+        lines.extend([numbers_line("h.retain", &mask), "h.len".to_string()]);
     }
     for sequence in [0, 1, 2, 3, 4, TOP, u64::MAX] {
         h(lines);
@@ -142,8 +142,8 @@ fn full(lines: &mut Vec<String>) {
     at_each_room("h.newly 0 32 4294967295", 1, lines);
     // Out of turn and regressed are told before full.
     lines.extend([append(0, 34), append(0, 33).replace(" 33 0", " 33 1"), append(0, 33)]);
-    lines.push(mask_line("h.retain", &[1; 511]));
-    lines.push(mask_line("h.retain", &[1; 512]));
+    lines.push(numbers_line("h.retain", &[1; 511]));
+    lines.push(numbers_line("h.retain", &[1; 512]));
     lines.push(format!("h.prune 1 2 31 32 33 {}", spaced(&[0; 11])));
     for desk in 0..6 {
         lines.extend((33..=66).step_by(1).map(|sequence| append(desk, sequence)));

@@ -9,7 +9,7 @@ use std::io::{self, Write};
 
 use runs::{
     lines::{LONGEST, TOP},
-    text::mask_line,
+    text::numbers_line,
 };
 
 /// A good line of every word but the creations and `room`.
@@ -93,7 +93,7 @@ pub fn vectors(replicas: u64) -> Vec<Vec<u64>> {
 fn long_lines(lines: &mut Vec<String>) {
     for word in ["g.retain", "h.retain"] {
         for bytes in [LONGEST - 1, LONGEST, LONGEST + 1, 2 * LONGEST, 3 * LONGEST + 1] {
-            let mut line = mask_line(word, &vec![1; (bytes - word.len()) / 2]);
+            let mut line = numbers_line(word, &vec![1; (bytes - word.len()) / 2]);
             if line.len() < bytes {
                 line.push('0');
             }

@@ -1,58 +1,19 @@
-//! From the values of a line to the original's types and back.
+//! From the values of a line to the original's types and back, and the cuts, which its graph keeps to itself.
+
+use std::fmt::Debug;
 
 use moirai_protocol::{
     broadcast::internalizer::Resolver,
     clock::{causal_frontier::CausalFrontier, version_vector::Version},
     event::{id::EventId, lamport::Lamport, tagged_op::TaggedOp},
     replica::{ReplicaId, ReplicaIdx},
-};
-use runs::{
-    answer::Answer,
-    lines::{Event, Id, TOP},
+    state::unstable_state::event_graph::EventGraph,
 };
 
-/// What the driver has to say of a line.
-pub enum Reply {
-    Answer(Answer),
-    /// The line cannot be asked of the original, and why.
-    Skip(String),
-}
-
-impl From<Answer> for Reply {
-    fn from(answer: Answer) -> Self {
-        Reply::Answer(answer)
-    }
-}
-
-/// Where the original compares names, a replica that has none makes it panic before it looks.
-pub fn unnamed() -> Reply {
-    Reply::Skip("unnamed".to_string())
-}
+use crate::lines::{Event, Id};
 
 pub fn resolver(replicas: u64) -> Resolver {
     Resolver::new((0..replicas).map(|i| ReplicaId(format!("desk{i}"))).collect())
-}
-
-pub fn bad_count(replicas: u64) -> bool {
-    !(1..=16).contains(&replicas)
-}
-
-pub fn bad_vector(replicas: u64, entries: &[u64]) -> bool {
-    entries.len() as u64 != replicas || entries.iter().any(|&entry| entry > TOP)
-}
-
-/// The refusals of an event that need no log: 1, 2, 3.
-pub fn bad_event(replicas: u64, event: &Event) -> Option<u64> {
-    let Id { replica, sequence, .. } = event.id;
-    if replica >= replicas {
-        Some(1)
-    } else if !(1..=TOP).contains(&sequence) {
-        Some(2)
-    } else if bad_vector(replicas, &event.version) || event.version[replica as usize] != sequence {
-        Some(3)
-    } else {
-        None
-    }
 }
 
 pub fn frontier(resolver: &Resolver, entries: &[u64]) -> CausalFrontier {
@@ -126,4 +87,12 @@ pub fn numbers_after(text: &str, opening: &str) -> Option<Vec<u64>> {
         .filter(|n| !n.is_empty())
         .map(|n| n.parse().ok())
         .collect()
+}
+
+/// The original's cuts are read off what it derives for `Debug`, as its last field.
+pub fn cuts<O: Debug>(log: &EventGraph<O>) -> Vec<u64> {
+    numbers_after(&format!("{log:?}"), "critical_versions: [").unwrap_or_else(|| {
+        eprintln!("no cuts in the Debug text of the graph");
+        std::process::exit(2)
+    })
 }
