@@ -1,14 +1,14 @@
 -- The turns to come are one less each turn.
 use Prim.Native.Nat.{_≤_, _-_}
 use borrow.Author.Needs.{needs}
-use Rattle.bench.proofs.graphs.port_graph_remove.Statement.{statement}
-use Rattle.bench.proofs.graphs.port_graph_remove.Tie as tie
+use Rattle.bench.proofs.changes.port_graph_remove.Statement.{statement}
+use Rattle.bench.proofs.changes.port_graph_remove.Tie as tie
 
 abbrev Inv-loop : tie.InvT-loop
-Inv-loop rows n queries m rounds g sum₀ k₀ sum k = k ≤ rounds
+Inv-loop rows n queries m rounds slots₀ pasts₀ from rows-from g last₀ sum₀ k₀ slots pasts last sum k = k ≤ rounds
 
 abbrev μ-loop : tie.MeasureT-loop
-μ-loop rows n queries m rounds g sum₀ k₀ sum k = rounds - k
+μ-loop rows n queries m rounds slots₀ pasts₀ from rows-from g last₀ sum₀ k₀ slots pasts last sum k = rounds - k
 
 built-requires : tie.Need-built-requires Inv-loop μ-loop
 built-requires c κs = tt
@@ -19,11 +19,8 @@ loop-holds c = search needs
 asked-requires : tie.Need-asked-requires Inv-loop μ-loop
 asked-requires c κs = tt
 
-id-requires : tie.Need-id-requires Inv-loop μ-loop
-id-requires c κs = tt
-
-remove-requires : tie.Need-remove-requires Inv-loop μ-loop
-remove-requires c κs = tt
+removed-requires : tie.Need-removed-requires Inv-loop μ-loop
+removed-requires c κs = tt
 
 wrapping-add-usize-requires : tie.Need-wrapping-add-usize-requires Inv-loop μ-loop
 wrapping-add-usize-requires c κs = tt
@@ -37,6 +34,9 @@ loop-less c = search needs
 loop-again : tie.Need-loop-again Inv-loop μ-loop
 loop-again c = search needs
 
+looked-at-requires : tie.Need-looked-at-requires Inv-loop μ-loop
+looked-at-requires c κs = tt
+
 returns : tie.Need-returns Inv-loop μ-loop
 returns c = search needs
 
@@ -49,10 +49,10 @@ port-graph-remove-spec =
     built-requires
     loop-holds
     asked-requires
-    id-requires
-    remove-requires
+    removed-requires
     wrapping-add-usize-requires
     add-k
     loop-less
     loop-again
+    looked-at-requires
     returns)
