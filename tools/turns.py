@@ -9,6 +9,7 @@ import sys
 for f in sys.argv[1:]:
     s=open(f).read()
     if '?' not in s: continue
+    s=re.sub(r' =\n +\?\n',' = ?\n',s)
     m=re.search(r'\nInv-(\S+) (.*?) = \?\n',s)
     need_len=False
     if m:

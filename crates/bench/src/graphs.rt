@@ -1,29 +1,47 @@
-// The graph's side of the benchmark: each function makes a graph of the rows that it is lent, makes one call so many times, and adds up what came back.
+// The graph's side of the benchmark: each function makes a graph of the rows that it is lent, asks it one thing so many times, and adds up something of each answer,
+// so that no part of a call is left out.
 use crate::rows::asked;
 use crate::rows::counted;
+use crate::rows::desk;
 use crate::rows::event;
 use crate::rows::id;
 use crate::rows::row;
 use crate::rows::version;
+use graph::COLUMNS;
 use graph::EventGraph;
 use graph::Found;
+use graph::FrontierFound;
 use graph::Order;
+use graph::Pasts;
+use graph::Slots;
 use graph::Told;
-use numbers::digit;
 use numbers::size;
 
-fn built(rows: &[usize], n: usize) -> EventGraph {
+// The graph with one more note.
+fn noted(g: EventGraph, note: &[usize], slots: &mut Slots, pasts: &mut Pasts) -> EventGraph {
+    let a = g.append(event(note), version(note), slots, pasts);
+    a.graph
+}
+
+// A graph of the rows, in tables that are emptied first.
+pub(super) fn built(rows: &[usize], n: usize, slots: &mut Slots, pasts: &mut Pasts) -> EventGraph {
+    *slots = [[0; 256]; COLUMNS];
+    *pasts = [0; 1024];
     let a = EventGraph::new(16);
     let mut g = a.graph;
     for i in 0..n {
-        let note = row(rows, i);
-        let a = g.append(event(note), version(note));
-        g = a.graph;
+        g = noted(g, row(rows, i), slots, pasts);
     }
     g
 }
 
-fn told(t: Told) -> usize {
+// The entry of a desk, another one each turn.
+fn reached(f: FrontierFound, k: usize) -> usize {
+    let frontier = f.frontier;
+    frontier.seq_by_idx(desk(k))
+}
+
+pub(super) fn told(t: Told) -> usize {
     match t {
         Told::Yes => 1,
         Told::No => 0,
@@ -33,25 +51,16 @@ fn told(t: Told) -> usize {
 
 fn found(f: Found) -> usize {
     match f {
-        Found::Op(op) => 1,
+        Found::Op(op) => size(op.op),
         Found::NotFound => 0,
     }
 }
 
 fn placed(o: Order) -> usize {
     match o {
-        Order::At(i) => 1,
+        Order::At(i) => i.0,
         Order::NotHeld => 0,
     }
-}
-
-#[no_mangle]
-pub extern "C" fn port_graph_append(rows: &[usize], n: usize, rounds: usize) -> usize {
-    let mut sum: usize = 0;
-    for k in 0..rounds {
-        sum = std::num::wrapping_add_usize(sum, built(rows, n).len());
-    }
-    sum
 }
 
 #[no_mangle]
@@ -62,11 +71,13 @@ pub extern "C" fn port_graph_greatest(
     m: usize,
     rounds: usize,
 ) -> usize {
-    let g = built(rows, n);
+    let mut slots = [[0; 256]; COLUMNS];
+    let mut pasts = [0; 1024];
+    let g = built(rows, n, &mut slots, &mut pasts);
     let mut sum: usize = 0;
     for k in 0..rounds {
-        let f = g.greatest_critical_frontier(version(asked(queries, k, m)));
-        sum = std::num::wrapping_add_usize(sum, size(digit(f.found)));
+        let f = g.greatest_critical_frontier(version(asked(queries, k, m)), &slots);
+        sum = std::num::wrapping_add_usize(sum, reached(f, k));
     }
     sum
 }
@@ -79,10 +90,15 @@ pub extern "C" fn port_graph_is_critical(
     m: usize,
     rounds: usize,
 ) -> usize {
-    let g = built(rows, n);
+    let mut slots = [[0; 256]; COLUMNS];
+    let mut pasts = [0; 1024];
+    let g = built(rows, n, &mut slots, &mut pasts);
     let mut sum: usize = 0;
     for k in 0..rounds {
-        sum = std::num::wrapping_add_usize(sum, told(g.is_critical(version(asked(queries, k, m)))));
+        sum = std::num::wrapping_add_usize(
+            sum,
+            told(g.is_critical(version(asked(queries, k, m)), &slots)),
+        );
     }
     sum
 }
@@ -96,10 +112,15 @@ pub extern "C" fn port_graph_predecessors(
     rounds: usize,
     out: &mut [usize],
 ) -> usize {
-    let g = built(rows, n);
+    let mut slots = [[0; 256]; COLUMNS];
+    let mut pasts = [0; 1024];
+    let g = built(rows, n, &mut slots, &mut pasts);
     let mut sum: usize = 0;
     for k in 0..rounds {
-        sum = counted(sum, g.predecessors(version(asked(queries, k, m)), out));
+        sum = counted(
+            sum,
+            g.predecessors(version(asked(queries, k, m)), &slots, out),
+        );
     }
     sum
 }
@@ -113,10 +134,15 @@ pub extern "C" fn port_graph_concurrent(
     rounds: usize,
     out: &mut [usize],
 ) -> usize {
-    let g = built(rows, n);
+    let mut slots = [[0; 256]; COLUMNS];
+    let mut pasts = [0; 1024];
+    let g = built(rows, n, &mut slots, &mut pasts);
     let mut sum: usize = 0;
     for k in 0..rounds {
-        sum = counted(sum, g.concurrent(version(asked(queries, k, m)), out));
+        sum = counted(
+            sum,
+            g.concurrent(version(asked(queries, k, m)), &slots, out),
+        );
     }
     sum
 }
@@ -128,10 +154,12 @@ pub extern "C" fn port_graph_frontier(
     rounds: usize,
     out: &mut [usize],
 ) -> usize {
-    let g = built(rows, n);
+    let mut slots = [[0; 256]; COLUMNS];
+    let mut pasts = [0; 1024];
+    let g = built(rows, n, &mut slots, &mut pasts);
     let mut sum: usize = 0;
     for k in 0..rounds {
-        sum = counted(sum, g.frontier(out));
+        sum = counted(sum, g.frontier(&pasts, out));
     }
     sum
 }
@@ -145,10 +173,25 @@ pub extern "C" fn port_graph_direct_predecessors(
     rounds: usize,
     out: &mut [usize],
 ) -> usize {
-    let g = built(rows, n);
+    let mut slots = [[0; 256]; COLUMNS];
+    let mut pasts = [0; 1024];
+    let g = built(rows, n, &mut slots, &mut pasts);
+    parents_rounds(g, queries, m, rounds, &slots, &pasts, out)
+}
+
+fn parents_rounds<'a>(
+    g: EventGraph,
+    queries: &[usize],
+    m: usize,
+    rounds: usize,
+    slots: &'a Slots,
+    pasts: &'a Pasts,
+    out: &mut [usize],
+) -> usize {
     let mut sum: usize = 0;
     for k in 0..rounds {
-        sum = counted(sum, g.direct_predecessors(id(asked(queries, k, m)), out));
+        let note = id(asked(queries, k, m));
+        sum = counted(sum, g.direct_predecessors(note, slots, pasts, out));
     }
     sum
 }
@@ -161,10 +204,12 @@ pub extern "C" fn port_graph_get(
     m: usize,
     rounds: usize,
 ) -> usize {
-    let g = built(rows, n);
+    let mut slots = [[0; 256]; COLUMNS];
+    let mut pasts = [0; 1024];
+    let g = built(rows, n, &mut slots, &mut pasts);
     let mut sum: usize = 0;
     for k in 0..rounds {
-        sum = std::num::wrapping_add_usize(sum, found(g.get(id(asked(queries, k, m)))));
+        sum = std::num::wrapping_add_usize(sum, found(g.get(id(asked(queries, k, m)), &slots)));
     }
     sum
 }
@@ -177,66 +222,28 @@ pub extern "C" fn port_graph_delivery_order(
     m: usize,
     rounds: usize,
 ) -> usize {
-    let g = built(rows, n);
+    let mut slots = [[0; 256]; COLUMNS];
+    let mut pasts = [0; 1024];
+    let g = built(rows, n, &mut slots, &mut pasts);
     let mut sum: usize = 0;
     for k in 0..rounds {
-        sum = std::num::wrapping_add_usize(sum, placed(g.delivery_order(id(asked(queries, k, m)))));
+        sum = std::num::wrapping_add_usize(
+            sum,
+            placed(g.delivery_order(id(asked(queries, k, m)), &slots)),
+        );
     }
     sum
 }
 
 #[no_mangle]
 pub extern "C" fn port_graph_roots(rows: &[usize], n: usize, rounds: usize) -> usize {
-    let g = built(rows, n);
+    let mut slots = [[0; 256]; COLUMNS];
+    let mut pasts = [0; 1024];
+    let g = built(rows, n, &mut slots, &mut pasts);
     let mut sum: usize = 0;
     for k in 0..rounds {
         let f = g.roots();
-        sum = std::num::wrapping_add_usize(sum, size(digit(f.found)));
-    }
-    sum
-}
-
-#[no_mangle]
-pub extern "C" fn port_graph_flush(
-    rows: &[usize],
-    n: usize,
-    queries: &[usize],
-    m: usize,
-    rounds: usize,
-) -> usize {
-    let g = built(rows, n);
-    let mut sum: usize = 0;
-    for k in 0..rounds {
-        let r = g.prune_predecessors(version(asked(queries, k, m)));
-        sum = std::num::wrapping_add_usize(sum, r.count);
-    }
-    sum
-}
-
-#[no_mangle]
-pub extern "C" fn port_graph_remove(
-    rows: &[usize],
-    n: usize,
-    queries: &[usize],
-    m: usize,
-    rounds: usize,
-) -> usize {
-    let g = built(rows, n);
-    let mut sum: usize = 0;
-    for k in 0..rounds {
-        let r = g.remove(id(asked(queries, k, m)));
-        sum = std::num::wrapping_add_usize(sum, r.count);
-    }
-    sum
-}
-
-#[no_mangle]
-pub extern "C" fn port_graph_retain(rows: &[usize], n: usize, mask: &[u8], rounds: usize) -> usize {
-    let g = built(rows, n);
-    let mut sum: usize = 0;
-    for k in 0..rounds {
-        let r = g.retain(mask);
-        sum = std::num::wrapping_add_usize(sum, r.count);
+        sum = std::num::wrapping_add_usize(sum, reached(f, k));
     }
     sum
 }

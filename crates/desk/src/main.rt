@@ -1,5 +1,8 @@
 // The listing program: reads lines on standard input to its end, and prints the answer of each. What a line says stands in `listing`,
-// what it does to the log and what is answered in `log`; here the bytes come in and go out.
+// what it does to the log and what is answered in `log`; here the bytes come in and go out. The tables of the log are locals of `main`, and are lent all the way down.
+use graph::COLUMNS;
+use graph::Pasts;
+use graph::Slots;
 use listing::command::LONGEST_LINE;
 use log::Answered;
 use log::LONGEST_ANSWER;
@@ -39,19 +42,41 @@ fn make_room(out: &[u8], at: usize) -> usize {
 }
 
 // Answers the line that is held. An overlong one is no line.
-fn answer_held(log: Log, held: Held, line: &[u8], out: &mut [u8], at: usize) -> Answered {
+fn answer_held(
+    log: Log,
+    held: Held,
+    line: &[u8],
+    out: &mut [u8],
+    at: usize,
+    slots: &mut Slots,
+    pasts: &mut Pasts,
+) -> Answered {
     let n = held.len;
     if held.overlong {
-        return refuse_line(log, out, at);
+        return Answered {
+            log,
+            at: refuse_line(out, at),
+        };
     }
     if line.len() < n {
-        return refuse_line(log, out, at);
+        return Answered {
+            log,
+            at: refuse_line(out, at),
+        };
     }
-    answer_line(log, &line[0..n], out, at)
+    answer_line(log, &line[0..n], out, at, slots, pasts)
 }
 
 // Answers each line that ends in this piece. The answers are written before the next read, so whoever waits for one gets it.
-fn answer_piece(log: Log, held: Held, piece: &[u8], line: &mut [u8], out: &mut [u8]) -> Progress {
+fn answer_piece(
+    log: Log,
+    held: Held,
+    piece: &[u8],
+    line: &mut [u8],
+    out: &mut [u8],
+    slots: &mut Slots,
+    pasts: &mut Pasts,
+) -> Progress {
     let mut held = held;
     let mut log = log;
     let mut at: usize = 0;
@@ -62,7 +87,7 @@ fn answer_piece(log: Log, held: Held, piece: &[u8], line: &mut [u8], out: &mut [
         held = taken.held;
         if taken.complete {
             at = make_room(out, at);
-            let a = answer_held(log, held, line, out, at);
+            let a = answer_held(log, held, line, out, at, slots, pasts);
             log = a.log;
             at = a.at;
             held = text::lines::fresh();
@@ -107,7 +132,7 @@ fn next_piece(held: Held, input: &mut [u8]) -> Piece {
 }
 
 // A proved loop has to end, and nothing says that the input does: the turns are counted down from a number that no run uses up.
-fn run(input: &mut [u8], line: &mut [u8], out: &mut [u8]) {
+fn run(input: &mut [u8], line: &mut [u8], out: &mut [u8], slots: &mut Slots, pasts: &mut Pasts) {
     let mut log = Log::new();
     let mut held = text::lines::fresh();
     let mut turns = u64::MAX;
@@ -117,7 +142,7 @@ fn run(input: &mut [u8], line: &mut [u8], out: &mut [u8]) {
             return;
         }
         let n = next.len;
-        let p = answer_piece(log, held, &input[0..n], line, out);
+        let p = answer_piece(log, held, &input[0..n], line, out, slots, pasts);
         log = p.log;
         held = p.held;
         if next.ended {
@@ -131,5 +156,7 @@ fn main() {
     let mut input = io::large_buffer();
     let mut line = [0u8; LONGEST_LINE];
     let mut out = io::large_buffer();
-    run(&mut input, &mut line, &mut out);
+    let mut slots = [[0usize; 256]; COLUMNS];
+    let mut pasts = [0u64; 1024];
+    run(&mut input, &mut line, &mut out, &mut slots, &mut pasts);
 }

@@ -6,6 +6,7 @@ use lib.Dec.{eqb}
 use lib.ListN.{take}
 use Rattle.laws.specs.Lists.{listBelow}
 use Rattle.positions.specs.Members.{has}
+use Rattle.graph.specs.Whole.{EventGraph}
 use Rattle.graph.specs.Refusals.{lateNo, notClosedNo, refusalOf}
 use Rattle.graph.specs.Graphs.{created, appended, parents, placeOf}
 use Rattle.graph.specs.Cuts.{greatest, isCritical}
@@ -13,7 +14,6 @@ use Rattle.graph.specs.Removals.{withoutId, flushed}
 use Rattle.history.specs.Examples.{answers, expected}
 use Rattle.clocks.specs.declared.event.Event.{Event}
 use Rattle.clocks.specs.declared.id.Disambiguator.the-variants.{Absent}
-use Rattle.graph.specs.declared.EventGraph.{EventGraph}
 use Rattle.graph.specs.declared.FrontierFound.{FrontierFound}
 
 -- the events of G with their versions

@@ -6,3 +6,4 @@ pub mod Shown
 pub mod Said
 pub mod SaidLines
 pub mod Telling
+pub mod HeadsLaws

@@ -3,6 +3,9 @@
 mod state;
 
 use clocks::vector::Seq;
+use graph::COLUMNS;
+use graph::Pasts;
+use graph::Slots;
 use probe_text::parts::bytes;
 use state::State;
 use state::answer;
@@ -126,6 +129,8 @@ fn run(
     versions: &mut [Seq; 8192],
     notes: &mut [u64; 1536],
     boundaries: &mut [Seq; 256],
+    slots: &mut Slots,
+    pasts: &mut Pasts,
 ) {
     let mut st = State::new();
     let mut r = Reading {
@@ -143,7 +148,16 @@ fn run(
         }
         r = advanced(r, input, line);
         if r.whole {
-            st = answer(st, text_of(r.held, line), out, versions, notes, boundaries);
+            st = answer(
+                st,
+                text_of(r.held, line),
+                out,
+                versions,
+                notes,
+                boundaries,
+                slots,
+                pasts,
+            );
         }
         turns -= 1;
     }
@@ -156,6 +170,8 @@ fn main() {
     let mut versions = [0; 8192];
     let mut notes = [0u64; 1536];
     let mut boundaries = [0; 256];
+    let mut slots = [[0; 256]; COLUMNS];
+    let mut pasts = [0u64; 1024];
     run(
         &mut input,
         &mut line,
@@ -163,5 +179,7 @@ fn main() {
         &mut versions,
         &mut notes,
         &mut boundaries,
+        &mut slots,
+        &mut pasts,
     );
 }

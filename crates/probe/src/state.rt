@@ -2,6 +2,8 @@
 use clocks::refusal::ACCEPTED;
 use clocks::refusal::BAD_LINE;
 use clocks::vector::Seq;
+use graph::Pasts;
+use graph::Slots;
 use numbers::entry;
 use probe_clocks::Clocked;
 use probe_graph::Log;
@@ -93,7 +95,7 @@ fn room(st: State, line: &[u8], kinds: &[u8], values: &[usize], out: &mut [u8]) 
     st
 }
 
-// One line, taken apart and handed to the module of its word. The tables are those of the history.
+// One line, taken apart and handed to the module of its word. The tables are those of the history and of the graph.
 pub fn answer(
     st: State,
     line: &[u8],
@@ -101,13 +103,26 @@ pub fn answer(
     versions: &mut [Seq; 8192],
     notes: &mut [u64; 1536],
     boundaries: &mut [Seq; 256],
+    slots: &mut Slots,
+    pasts: &mut Pasts,
 ) -> State {
     let mut kinds = [0u8; MOST_TOKENS];
     let mut values = [0usize; MOST_TOKENS];
     let n = parse(line, &mut kinds, &mut values);
     let kinds = bytes(&kinds, 0, n);
     let values = part(&values, 0, n);
-    by_word(st, line, kinds, values, out, versions, notes, boundaries)
+    by_word(
+        st,
+        line,
+        kinds,
+        values,
+        out,
+        versions,
+        notes,
+        boundaries,
+        slots,
+        pasts,
+    )
 }
 
 fn by_word(
@@ -119,6 +134,8 @@ fn by_word(
     versions: &mut [Seq; 8192],
     notes: &mut [u64; 1536],
     boundaries: &mut [Seq; 256],
+    slots: &mut Slots,
+    pasts: &mut Pasts,
 ) -> State {
     match byte_at(line, 0) {
         b'c' => st.clocked(probe_clocks::answer(
@@ -130,7 +147,17 @@ fn by_word(
             out,
             st.at,
         )),
-        b'g' => st.logged(probe_graph::answer(st.log, st.room, line, kinds, values, out, st.at)),
+        b'g' => st.logged(probe_graph::answer(
+            st.log,
+            st.room,
+            line,
+            kinds,
+            values,
+            out,
+            st.at,
+            slots,
+            pasts,
+        )),
         b'h' => st.traced(probe_history::answer(
             st.traces,
             st.room,

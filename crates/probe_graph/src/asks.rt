@@ -4,6 +4,7 @@ use clocks::refusal::BAD_LINE;
 use graph::EventGraph;
 use graph::Found;
 use graph::Order;
+use graph::Slots;
 use graph::Told;
 use positions::NodeIndex;
 use probe_text::answers::Answer;
@@ -30,11 +31,17 @@ fn word(line: &[u8], kinds: &[u8], values: &[usize]) -> usize {
     )
 }
 
-pub fn asked(g: EventGraph, line: &[u8], kinds: &[u8], values: &[usize]) -> Answer {
+pub fn asked<'a>(
+    g: EventGraph,
+    line: &[u8],
+    kinds: &[u8],
+    values: &'a [usize],
+    slots: &'a Slots,
+) -> Answer {
     match word(line, kinds, values) {
-        GET => found(g.get(id(kinds, values))),
-        ORDER => order(g.delivery_order(id(kinds, values))),
-        IS_CRITICAL => told(g.is_critical(values)),
+        GET => found(g.get(id(kinds, values), slots)),
+        ORDER => order(g.delivery_order(id(kinds, values), slots)),
+        IS_CRITICAL => told(g.is_critical(values, slots)),
         LEN => Answer::Number(g.len()),
         IS_EMPTY => yes_no(g.is_empty()),
         _ => Answer::Bare(BAD_LINE),

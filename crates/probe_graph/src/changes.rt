@@ -2,9 +2,12 @@
 use crate::Log;
 use clocks::refusal::ACCEPTED;
 use clocks::refusal::BAD_LINE;
+use graph::COLUMNS;
 use graph::EventGraph;
 use graph::GraphAnswer;
+use graph::Pasts;
 use graph::Removed;
+use graph::Slots;
 use numbers::entry;
 use probe_text::answers::Answer;
 use probe_text::parts::bytes;
@@ -26,9 +29,10 @@ const REMOVE: usize = 4;
 
 const RETAIN: usize = 5;
 
-// The answer, whether a refusal changed the log, and the log.
+// The answer, whether it is a refusal, whether that handed back another graph, and the log.
 pub struct Change {
     pub answer: Answer,
+    pub refused: bool,
     pub changed: bool,
     pub log: Log,
 }
@@ -42,33 +46,58 @@ pub fn word(line: &[u8], kinds: &[u8], values: &[usize]) -> usize {
     )
 }
 
-pub fn called(word: usize, log: Log, kinds: &[u8], values: &[usize]) -> Change {
+pub fn called(
+    word: usize,
+    log: Log,
+    kinds: &[u8],
+    values: &[usize],
+    slots: &mut Slots,
+    pasts: &mut Pasts,
+) -> Change {
     let r = entry(values, 0);
     match word {
-        NEW => created(log, EventGraph::new(r)),
+        NEW => created(log, EventGraph::new(r), slots, pasts),
         FROM => created(
             log,
             EventGraph::from_checkpoint(r, vector(kinds, values, 1)),
+            slots,
+            pasts,
         ),
-        _ => of_made(word, log, kinds, values),
+        _ => of_made(word, log, kinds, values, slots, pasts),
     }
 }
 
-fn of_made(word: usize, log: Log, kinds: &[u8], values: &[usize]) -> Change {
+fn of_made(
+    word: usize,
+    log: Log,
+    kinds: &[u8],
+    values: &[usize],
+    slots: &mut Slots,
+    pasts: &mut Pasts,
+) -> Change {
     if log.made {
-        return turned(word, log, kinds, values);
+        return turned(word, log.graph, kinds, values, slots, pasts);
     }
     unchanged(log, BAD_LINE)
 }
 
-fn turned(word: usize, log: Log, kinds: &[u8], values: &[usize]) -> Change {
-    let g = log.graph;
+fn turned(
+    word: usize,
+    g: EventGraph,
+    kinds: &[u8],
+    values: &[usize],
+    slots: &mut Slots,
+    pasts: &mut Pasts,
+) -> Change {
     match word {
-        APPEND => appended(g, g.append(event(kinds, values), vector(kinds, values, 5))),
-        FLUSH => removed(g, g.prune_predecessors(values)),
-        REMOVE => removed(g, g.remove(id(kinds, values))),
-        RETAIN => retained(g, values),
-        _ => removed(g, g.clear()),
+        APPEND => appended(
+            g,
+            g.append(event(kinds, values), vector(kinds, values, 5), slots, pasts),
+        ),
+        FLUSH => removed(g, g.prune_predecessors(values, slots, pasts)),
+        REMOVE => removed(g, g.remove(id(kinds, values), slots, pasts)),
+        RETAIN => retained(g, values, slots, pasts),
+        _ => removed(g, g.clear(slots, pasts)),
     }
 }
 
@@ -76,22 +105,26 @@ fn turned(word: usize, log: Log, kinds: &[u8], values: &[usize]) -> Change {
 fn unchanged(log: Log, refusal: usize) -> Change {
     Change {
         answer: Answer::Bare(refusal),
+        refused: true,
         changed: false,
         log,
     }
 }
 
-// A new log, or the refusal and the log that was there.
-fn created(log: Log, a: GraphAnswer) -> Change {
+// A new log, whose tables are zeros, or the refusal and the log that was there.
+fn created(log: Log, a: GraphAnswer, slots: &mut Slots, pasts: &mut Pasts) -> Change {
     if a.refusal != ACCEPTED {
         return unchanged(log, a.refusal);
     }
+    *slots = [[0; 256]; COLUMNS];
+    *pasts = [0; 1024];
     accepted(Answer::Bare(ACCEPTED), a.graph)
 }
 
 fn accepted(answer: Answer, graph: EventGraph) -> Change {
     Change {
         answer,
+        refused: false,
         changed: false,
         log: Log { made: true, graph },
     }
@@ -101,6 +134,7 @@ fn accepted(answer: Answer, graph: EventGraph) -> Change {
 fn refused(before: EventGraph, refusal: usize, graph: EventGraph) -> Change {
     Change {
         answer: Answer::Bare(refusal),
+        refused: true,
         changed: differ(before, graph),
         log: Log { made: true, graph },
     }
@@ -121,9 +155,9 @@ fn removed(before: EventGraph, a: Removed) -> Change {
 }
 
 // `g.retain M`
-fn retained(g: EventGraph, values: &[usize]) -> Change {
+fn retained(g: EventGraph, values: &[usize], slots: &mut Slots, pasts: &mut Pasts) -> Change {
     let keep = mask(values);
-    removed(g, g.retain(bytes(&keep, 0, values.len())))
+    removed(g, g.retain(bytes(&keep, 0, values.len()), slots, pasts))
 }
 
 // Whether two graphs tell another number of events, another named or other roots.

@@ -2,6 +2,7 @@
 use clocks::refusal::ACCEPTED;
 use graph::EventGraph;
 use graph::FrontierFound;
+use graph::Slots;
 use probe_text::answers;
 use probe_text::answers::Answer;
 use probe_text::words::row;
@@ -14,11 +15,16 @@ pub fn word(line: &[u8], kinds: &[u8], values: &[usize]) -> usize {
     row(b"g.roots: g.named: g.greatest:v", line, kinds, values)
 }
 
-pub fn called(word: usize, g: EventGraph, values: &[usize]) -> FrontierFound {
+pub fn called<'a>(
+    word: usize,
+    g: EventGraph,
+    values: &'a [usize],
+    slots: &'a Slots,
+) -> FrontierFound {
     match word {
         ROOTS => g.roots(),
         NAMED => named(g),
-        _ => g.greatest_critical_frontier(values),
+        _ => g.greatest_critical_frontier(values, slots),
     }
 }
 

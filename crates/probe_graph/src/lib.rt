@@ -1,4 +1,4 @@
-// The graph words of the line driver: each makes one call of `graph`.
+// The graph words of the line driver: each makes one call of `graph`. The tables are lent to each word, and changed in place.
 mod asks;
 mod changes;
 mod frontiers;
@@ -6,7 +6,11 @@ mod lists;
 
 use clocks::refusal::BAD_LINE;
 use graph::EventGraph;
+use graph::Pasts;
+use graph::Slots;
 use probe_text::answers;
+use probe_text::lent::digest;
+use probe_text::lent::words_digest;
 use probe_text::words::NO_ROW;
 
 // The graph, and whether a good g.new or g.from came.
@@ -28,6 +32,12 @@ pub fn no_log() -> Log {
     Log { made: false, graph }
 }
 
+// A number that tells two contents of the tables apart.
+fn tables_digest(slots: &Slots, pasts: &Pasts) -> u64 {
+    let ids = digest(&slots[0]) ^ (digest(&slots[1]) << 1) ^ (digest(&slots[2]) << 2);
+    ids ^ (digest(&slots[3]) << 3) ^ (digest(&slots[4]) << 4) ^ (words_digest(pasts) << 5)
+}
+
 pub fn answer(
     log: Log,
     room: usize,
@@ -36,32 +46,64 @@ pub fn answer(
     values: &[usize],
     out: &mut [u8],
     at: usize,
+    slots: &mut Slots,
+    pasts: &mut Pasts,
 ) -> Logged {
     let word = changes::word(line, kinds, values);
     if word == NO_ROW {
         return Logged {
-            at: asked(log, room, line, kinds, values, out, at),
+            at: asked(log, room, line, kinds, values, out, at, slots, pasts),
             log,
         };
     }
-    let c = changes::called(word, log, kinds, values);
-    let answer = c.answer;
-    let log = c.log;
-    Logged {
-        at: answers::told(out, at, answer, c.changed),
-        log,
-    }
+    changed(word, log, kinds, values, out, at, slots, pasts)
 }
 
-// The words that leave the graph as it is.
-fn asked(
+// The words that hand back a graph. Where one refused, the tables are to be as they were.
+fn changed(
+    word: usize,
     log: Log,
-    room: usize,
-    line: &[u8],
     kinds: &[u8],
     values: &[usize],
     out: &mut [u8],
     at: usize,
+    slots: &mut Slots,
+    pasts: &mut Pasts,
+) -> Logged {
+    let before = tables_digest(slots, pasts);
+    let c = changes::called(word, log, kinds, values, slots, pasts);
+    let after = tables_digest(slots, pasts);
+    let answer = c.answer;
+    let log = c.log;
+    Logged {
+        at: answers::told(
+            out,
+            at,
+            answer,
+            is_changed(c.refused, c.changed, before == after),
+        ),
+        log,
+    }
+}
+
+fn is_changed(refused: bool, changed: bool, same_tables: bool) -> bool {
+    if same_tables {
+        return changed;
+    }
+    refused
+}
+
+// The words that leave the graph as it is.
+fn asked<'a>(
+    log: Log,
+    room: usize,
+    line: &[u8],
+    kinds: &[u8],
+    values: &'a [usize],
+    out: &mut [u8],
+    at: usize,
+    slots: &'a Slots,
+    pasts: &'a Pasts,
 ) -> usize {
     let g = log.graph;
     if !log.made {
@@ -69,11 +111,11 @@ fn asked(
     }
     let word = lists::word(line, kinds, values);
     if word != NO_ROW {
-        return lists::listed(word, g, room, kinds, values, out, at);
+        return lists::listed(word, g, room, kinds, values, out, at, slots, pasts);
     }
     let word = frontiers::word(line, kinds, values);
     if word != NO_ROW {
-        return frontiers::told(frontiers::called(word, g, values), out, at);
+        return frontiers::told(frontiers::called(word, g, values, slots), out, at);
     }
-    answers::told(out, at, asks::asked(g, line, kinds, values), false)
+    answers::told(out, at, asks::asked(g, line, kinds, values, slots), false)
 }

@@ -4,6 +4,8 @@ use clocks::refusal::Listed;
 use clocks::replica::ReplicaIdx;
 use graph::EventGraph;
 use graph::Found;
+use graph::Pasts;
+use graph::Slots;
 use numbers::entry;
 use positions::NodeIndex;
 use probe_text::answers;
@@ -40,58 +42,74 @@ pub fn word(line: &[u8], kinds: &[u8], values: &[usize]) -> usize {
 }
 
 // The call that a word makes, with a lent buffer.
-fn called(
+fn called<'a>(
     word: usize,
     g: EventGraph,
     kinds: &[u8],
-    values: &[usize],
+    values: &'a [usize],
     list: &mut [usize],
+    slots: &'a Slots,
+    pasts: &'a Pasts,
 ) -> Listed {
     match word {
-        PARENTS => g.direct_predecessors(id(kinds, values), list),
+        PARENTS => g.direct_predecessors(id(kinds, values), slots, pasts, list),
         CUTS => g.cuts(list),
-        HEADS => g.frontier(list),
+        HEADS => g.frontier(pasts, list),
         ITER => g.iter(list),
-        PREDECESSORS => g.predecessors(values, list),
-        CONCURRENT => g.concurrent(values, list),
-        _ => replica_events(g, values, list),
+        PREDECESSORS => g.predecessors(values, slots, list),
+        CONCURRENT => g.concurrent(values, slots, list),
+        _ => replica_events(g, values, list, slots),
     }
 }
 
 // `g.replica-events O A B`
-fn replica_events(g: EventGraph, values: &[usize], list: &mut [usize]) -> Listed {
+fn replica_events(g: EventGraph, values: &[usize], list: &mut [usize], slots: &Slots) -> Listed {
     let origin = ReplicaIdx(entry(values, 0));
-    g.replica_events(origin, entry(values, 1), entry(values, 2), list)
+    g.replica_events(origin, entry(values, 1), entry(values, 2), slots, list)
 }
 
 // The call with a buffer of `room` entries, and what it answered.
-pub fn listed(
+pub fn listed<'a>(
     word: usize,
     g: EventGraph,
     room: usize,
     kinds: &[u8],
-    values: &[usize],
+    values: &'a [usize],
     out: &mut [u8],
     at: usize,
+    slots: &'a Slots,
+    pasts: &'a Pasts,
 ) -> usize {
     let mut list = [PATTERN; MOST_ROOM];
     if MOST_ROOM < room {
         return answers::refused(out, at, BAD_LINE);
     }
-    lent(word, g, kinds, values, &mut list[0..room], out, at)
+    lent(
+        word,
+        g,
+        kinds,
+        values,
+        &mut list[0..room],
+        out,
+        at,
+        slots,
+        pasts,
+    )
 }
 
-fn lent(
+fn lent<'a>(
     word: usize,
     g: EventGraph,
     kinds: &[u8],
-    values: &[usize],
+    values: &'a [usize],
     list: &mut [usize],
     out: &mut [u8],
     at: usize,
+    slots: &'a Slots,
+    pasts: &'a Pasts,
 ) -> usize {
-    let answer = called(word, g, kinds, values, list);
-    told(word, g, answer, list, out, at)
+    let answer = called(word, g, kinds, values, list, slots, pasts);
+    told(word, g, answer, list, out, at, slots)
 }
 
 fn told(
@@ -101,10 +119,11 @@ fn told(
     list: &[usize],
     out: &mut [u8],
     at: usize,
+    slots: &Slots,
 ) -> usize {
     let n = count(listed);
     let at = answers::bare(out, at, refusal(listed));
-    let at = entries(word, g, list, n, out, at);
+    let at = entries(word, g, list, n, out, at, slots);
     answers::ended(out, at, !is_kept(list, n))
 }
 
@@ -116,19 +135,20 @@ fn entries(
     n: usize,
     out: &mut [u8],
     at: usize,
+    slots: &Slots,
 ) -> usize {
     let mut at = at;
     for i in 0..n {
-        at = one(word, g, entry(list, i), out, at);
+        at = one(word, g, entry(list, i), out, at, slots);
     }
     at
 }
 
-fn one(word: usize, g: EventGraph, k: usize, out: &mut [u8], at: usize) -> usize {
+fn one(word: usize, g: EventGraph, k: usize, out: &mut [u8], at: usize, slots: &Slots) -> usize {
     if word == CUTS {
         return answers::spaced(out, at, k);
     }
-    held(word, g.event_at(NodeIndex(k)), out, at)
+    held(word, g.event_at(NodeIndex(k), slots), out, at)
 }
 
 // An event, or its id alone. Where a position holds nothing the answer shows nothing.

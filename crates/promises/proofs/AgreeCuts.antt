@@ -8,10 +8,10 @@ use native.Mathlib.Omega.{arith}
 use Rattle.laws.proofs.Orders.{le-or-lt, bool-iff}
 use Rattle.positions.specs.Members.{has}
 use Rattle.tables.specs.Slots.{descends}
+use Rattle.graph.specs.Whole.{EventGraph}
 use Rattle.graph.proofs.DescentLaws.{recorded-intro, recorded-held, recorded-elim}
 use Rattle.promises.specs.Reached.{Versions}
 use Rattle.promises.specs.Demand.{SameId}
-use Rattle.graph.specs.declared.EventGraph.{EventGraph}
 use Rattle.promises.proofs.Pigeonhole.{pigeonhole}
 use Rattle.promises.proofs.Matching.{Match, swapped, same-back, one-slot, descends-over}
 

@@ -15,6 +15,7 @@ use Rattle.laws.proofs.Searching.{max-up, max-least, last-is}
 use Rattle.laws.proofs.Lists.{tabulate-cong}
 use Rattle.clocks.specs.Vectors.{desks}
 use Rattle.positions.specs.Members.{has}
+use Rattle.graph.specs.Whole.{EventGraph}
 use Rattle.graph.specs.Refusals.{covered}
 use Rattle.tables.specs.Ranks.{highestSeq}
 use Rattle.graph.specs.Cuts.{prefixFrontier, cutInside, greatest}
@@ -24,7 +25,6 @@ use Rattle.graph.proofs.CoverLaws.{covered-intro, covered-elim}
 use Rattle.graph.proofs.CriticalLaws.{inside}
 use Rattle.promises.specs.Reached.{Versions}
 use Rattle.promises.specs.Demand.{Agree}
-use Rattle.graph.specs.declared.EventGraph.{EventGraph}
 use Rattle.promises.proofs.Matching.{Match, swapped, holds}
 use Rattle.promises.proofs.AgreeCuts.{held-same, cuts-same, Prefix, prefix-over}
 

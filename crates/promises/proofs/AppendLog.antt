@@ -12,6 +12,7 @@ use Rattle.clocks.specs.Vectors.{entry, wellFormed}
 use Rattle.clocks.specs.Ids.{codeOf}
 use Rattle.clocks.proofs.Vectors.{well-formed-for, well-formed-length, at-most-elim}
 use Rattle.tables.specs.Slots.{descends}
+use Rattle.graph.specs.Whole.{EventGraph}
 use Rattle.graph.specs.Refusals.{isBehind, refusalOf}
 use Rattle.graph.specs.Graphs.{pushed}
 use Rattle.graph.specs.Invariant.{GraphOk, replicaAt, seqAt, Siblings}
@@ -22,7 +23,6 @@ use Rattle.graph.proofs.AcceptedLaws.{timely-cases, AfterSibling, other-id}
 use Rattle.promises.specs.Reached.{Versions, withVersion, versionAt}
 use Rattle.clocks.specs.declared.event.Event.{Event}
 use Rattle.clocks.specs.declared.id.EventId.{EventId}
-use Rattle.graph.specs.declared.EventGraph.{EventGraph}
 use Rattle.promises.proofs.LogOk.{LogOk}
 
 -- an event that roots do not refuse has a version that is at least roots in every entry

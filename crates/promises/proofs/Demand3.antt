@@ -3,9 +3,9 @@ use mathlib.Core.List.{List}
 use mathlib.Core.Logic.{⊎-elim}
 use mathlib.Core.Path.{_≡_, sym, _∙_}
 use Prim.Native.Nat.{ℕ}
+use Rattle.graph.specs.Whole.{EventGraph}
 use Rattle.promises.specs.Reached.{Versions, Reached}
 use Rattle.promises.specs.Demand.{Note, Last, never, at, Start, fresh, checkpoint, Log, begin, append, flush, Among, SameNote, Demand3}
-use Rattle.graph.specs.declared.EventGraph.{EventGraph}
 use Rattle.promises.proofs.ReachedLog.{reached-ok}
 use Rattle.promises.proofs.Matching.{Found}
 use Rattle.promises.proofs.Agreement.{agreement}

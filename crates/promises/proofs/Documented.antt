@@ -10,13 +10,13 @@ use Rattle.laws.proofs.Orders.{and-both, is-false}
 use Rattle.clocks.specs.Vectors.{entry}
 use Rattle.positions.specs.Members.{has}
 use Rattle.tables.specs.Slots.{descends}
+use Rattle.graph.specs.Whole.{EventGraph}
 use Rattle.graph.specs.Graphs.{parents, heads}
 use Rattle.graph.specs.Invariant.{replicaAt, seqAt}
 use Rattle.graph.proofs.DescentLaws.{recorded-intro, recorded-held, recorded-elim}
 use Rattle.graph.proofs.MeaningLaws.{parent-elim, parent-intro, head-elim, head-intro}
 use Rattle.promises.specs.Reached.{Versions, versionAt}
 use Rattle.promises.specs.Documented.{Before, DirectParent, Maximal, IsCut}
-use Rattle.graph.specs.declared.EventGraph.{EventGraph}
 use Rattle.promises.proofs.LogOk.{LogOk}
 
 module _ (g : EventGraph) (W : Versions) (ok : LogOk g W) where

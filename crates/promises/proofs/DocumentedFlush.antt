@@ -13,6 +13,7 @@ use Rattle.laws.specs.Counting.{countBelow}
 use Rattle.laws.proofs.Orders.{le-or-lt}
 use Rattle.clocks.specs.Vectors.{wellFormed}
 use Rattle.positions.specs.Members.{has}
+use Rattle.graph.specs.Whole.{EventGraph, Removed}
 use Rattle.graph.specs.Refusals.{covered}
 use Rattle.graph.specs.Cuts.{isCritical}
 use Rattle.tables.specs.Ranks.{closed}
@@ -27,8 +28,6 @@ use Rattle.graph.proofs.RemovalCases.{stays, stays-held, flush-cases}
 use Rattle.promises.specs.Reached.{Versions}
 use Rattle.promises.specs.Demand.{SameNote}
 use Rattle.promises.specs.Documented.{IsCut, FlushedPrefix}
-use Rattle.graph.specs.declared.EventGraph.{EventGraph}
-use Rattle.graph.specs.declared.Removed.{Removed}
 use Rattle.promises.proofs.LogOk.{LogOk}
 use Rattle.promises.proofs.Documented.{cut-exact}
 

@@ -17,6 +17,7 @@ use Rattle.clocks.specs.Vectors.{entry, wellFormed, atMost}
 use Rattle.clocks.specs.Frontiers.{zeros}
 use Rattle.clocks.proofs.Vectors.{at-most-intro, at-most-elim}
 use Rattle.positions.specs.Members.{has}
+use Rattle.graph.specs.Whole.{EventGraph}
 use Rattle.graph.specs.Refusals.{covered}
 use Rattle.graph.specs.Graphs.{appended}
 use Rattle.graph.specs.Cuts.{baseOf, prefixFrontier, cutInside, outside, frontierFound, greatest, atBase, isCritical}
@@ -27,7 +28,6 @@ use Rattle.graph.proofs.CriticalLaws.{AtCut, critical-exactly, inside, same-ent
 use Rattle.promises.specs.Reached.{Versions, versionAt}
 use Rattle.promises.specs.Documented.{Covers, IsCut, rootAt, FrontierOf, CriticalFrontier, CutInside, GreatestInside, HasAnswer}
 use Rattle.clocks.specs.declared.causal_frontier.CausalFrontier.{CausalFrontier}
-use Rattle.graph.specs.declared.EventGraph.{EventGraph}
 use Rattle.clocks.specs.declared.event.Event.{Event}
 use Rattle.promises.proofs.LogOk.{LogOk}
 use Rattle.promises.proofs.AppendLog.{accepted-after}

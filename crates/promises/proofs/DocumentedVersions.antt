@@ -9,9 +9,9 @@ use Rattle.laws.proofs.Orders.{le-or-lt, true-or-false}
 use Rattle.laws.proofs.Counting.{any-elim}
 use Rattle.laws.proofs.Searching.{any-false, decided-prefix}
 use Rattle.tables.specs.Slots.{descends}
+use Rattle.graph.specs.Whole.{EventGraph}
 use Rattle.promises.specs.Reached.{Versions, versionAt}
 use Rattle.promises.specs.Documented.{Covers, Before, IsCut, Under, CriticalVersion, MaximalBelow}
-use Rattle.graph.specs.declared.EventGraph.{EventGraph}
 use Rattle.promises.proofs.LogOk.{LogOk}
 use Rattle.promises.proofs.Documented.{before-of, of-before, before-through}
 

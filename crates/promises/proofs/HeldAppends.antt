@@ -15,6 +15,7 @@ use Rattle.laws.proofs.Orders.{true-or-false}
 use Rattle.clocks.specs.Vectors.{entry}
 use Rattle.clocks.specs.Ids.{codeOf}
 use Rattle.clocks.proofs.Vectors.{well-formed-for}
+use Rattle.graph.specs.Whole.{EventGraph}
 use Rattle.graph.specs.Refusals.{refusalOf}
 use Rattle.graph.specs.Graphs.{pushed, appended}
 use Rattle.graph.specs.Invariant.{replicaAt, seqAt, codeAt}
@@ -25,7 +26,6 @@ use Rattle.promises.specs.Reached.{Versions, withVersion}
 use Rattle.promises.specs.Demand.{Note, Last, never, at, Among, here, there}
 use Rattle.clocks.specs.declared.event.Event.{Event}
 use Rattle.clocks.specs.declared.id.EventId.{EventId}
-use Rattle.graph.specs.declared.EventGraph.{EventGraph}
 use Rattle.promises.proofs.WhatIsHeld.{NoteAt, Contained, RootsAre, Holding, note-moves}
 use Rattle.promises.proofs.LogOk.{LogOk}
 use Rattle.promises.proofs.AppendLog.{old-version, new-version}

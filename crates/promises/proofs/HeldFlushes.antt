@@ -15,6 +15,7 @@ use Rattle.clocks.specs.Frontiers.{fromEntries}
 use Rattle.clocks.proofs.Frontiers.{made}
 use Rattle.positions.specs.Members.{setOf}
 use Rattle.positions.specs.Compacting.{rank}
+use Rattle.graph.specs.Whole.{EventGraph, Removed}
 use Rattle.graph.specs.Refusals.{covered}
 use Rattle.graph.specs.Cuts.{prefixFrontier, baseOf, isCritical, atBase}
 use Rattle.graph.specs.Removals.{kept, rootedAt, flushed}
@@ -27,8 +28,6 @@ use Rattle.tables.proofs.ClosingLaws.{rank-count}
 use Rattle.graph.proofs.RemovalCases.{stays, stays-held, flush-cases}
 use Rattle.promises.specs.Reached.{Versions}
 use Rattle.promises.specs.Demand.{Note, Last, never, at}
-use Rattle.graph.specs.declared.EventGraph.{EventGraph}
-use Rattle.graph.specs.declared.Removed.{Removed}
 use Rattle.promises.proofs.WhatIsHeld.{NoteAt, Contained, RootsAre, Holding, note-moves}
 
 -- a critical frontier is nowhere below roots

@@ -6,9 +6,9 @@ use lib.Dec.{leb, ltb}
 use lib.ListN.{length}
 use Rattle.clocks.specs.Vectors.{entry}
 use Rattle.tables.specs.Slots.{descends}
+use Rattle.graph.specs.Whole.{EventGraph}
 use Rattle.graph.specs.Invariant.{GraphOk, NotesOk, Siblings, replicaAt, seqAt}
 use Rattle.promises.specs.Reached.{Versions, versionAt}
-use Rattle.graph.specs.declared.EventGraph.{EventGraph}
 
 pub record LogOk (g : EventGraph) (W : Versions) : Type 0 where
   pub graph : GraphOk g

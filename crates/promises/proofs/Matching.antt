@@ -8,12 +8,12 @@ use native.Mathlib.Omega.{arith}
 use Rattle.laws.proofs.Orders.{le-or-lt, is-false}
 use Rattle.clocks.specs.Vectors.{entry}
 use Rattle.tables.specs.Slots.{descends}
+use Rattle.graph.specs.Whole.{EventGraph}
 use Rattle.graph.specs.Graphs.{parents, heads}
 use Rattle.graph.specs.Invariant.{NotesOk, replicaAt, seqAt}
 use Rattle.graph.proofs.MeaningLaws.{parent-elim, parent-intro, head-elim, head-intro}
 use Rattle.promises.specs.Reached.{Versions, versionAt}
 use Rattle.promises.specs.Demand.{SameId, SameNote, Holds}
-use Rattle.graph.specs.declared.EventGraph.{EventGraph}
 use Rattle.promises.proofs.LogOk.{LogOk}
 use Rattle.promises.proofs.Documented.{before-of, of-before}
 

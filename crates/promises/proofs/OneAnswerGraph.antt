@@ -1,6 +1,15 @@
 -- No second answer fits the contract of a public function of `graph`, one statement for each; `Post` as in OneAnswerClocks.antt. A list call answers the
--- same and leaves the same in the buffer.
+-- same and leaves the same in the buffer, a change the same in both tables.
+use mathlib.Core.List.{List}
+use mathlib.Core.Path.{_≡_, ap}
+use Prim.Native.Nat.{ℕ}
+use lib.ListN.{length}
 use denote.Ref.{now}
+use Rattle.graph.specs.Whole.{EventGraph, GraphAnswer, Removed, columns, answered, leaves}
+use Rattle.graph.proofs.ColumnLaws.{slots-same}
+use Rattle.graph.specs.declared.EventGraph.{EventGraph as Small}
+use Rattle.graph.specs.declared.GraphAnswer.{GraphAnswer as SmallAnswer}
+use Rattle.graph.specs.declared.Removed.{Removed as SmallRemoved}
 use Rattle.graph.proofs.append.is_behind.Reads.{Post as is-behind}
 use Rattle.graph.proofs.append.empty_graph.Reads.{Post as empty-graph}
 use Rattle.graph.proofs.EventGraph.get.Reads.{Post as get}
@@ -28,13 +37,39 @@ use Rattle.graph.proofs.EventGraph.prune_predecessors.Reads.{Post as prune-pred
 use Rattle.graph.proofs.EventGraph.clear.Reads.{Post as clear}
 use Rattle.promises.proofs.OneAnswer.{one-answer, writes-once, lists-if-once, Once, OnceWith}
 
+-- ---- a graph whose tables are lent: where the slots have as many columns as their type says, the answers are equal, and so is what is left in both tables
+
+abbrev OnceTables : {K : Type 0} {A R S : K → Type 0} → ((κs : K) → A κs → R κs → S κs → Type 0) → ((κs : K) → S κs → List (List ℕ)) → ((κs : K) → S κs → List ℕ) → Type 0
+OnceTables {K} {A} {R} {S} P b c =
+    (κs : K) (a : A κs) (x y : R κs) (s t : S κs) → length (b κs s) ≡ columns → length (b κs t) ≡ columns → P κs a x s → P κs a y t → (x ≡ y) × (b κs s ≡ b κs t) × (c κs s ≡ c κs t)
+
+-- what of an answer goes by value
+abbrev small : EventGraph → Small
+small g = record { held = g .held; rooted = g .rooted; roots = g .roots; named = g .named; cuts = g .cuts }
+
+abbrev smallAnswer : GraphAnswer → SmallAnswer
+smallAnswer a = record { refusal = a .refusal; graph = small (a .graph) }
+
+abbrev smallRemoved : Removed → SmallRemoved
+smallRemoved a = record { refusal = a .refusal; count = a .count; graph = small (a .graph) }
+
+answers-once : (x y : SmallAnswer) (slots slots′ : List (List ℕ)) (pasts pasts′ : List ℕ) → length slots ≡ columns → length slots′ ≡ columns
+    → answered x slots pasts ≡ answered y slots′ pasts′ → (x ≡ y) × (slots ≡ slots′) × (pasts ≡ pasts′)
+answers-once x y slots slots′ pasts pasts′ l m e =
+    (ap smallAnswer e, slots-same (x .graph) (y .graph) slots slots′ pasts pasts′ l m (ap (λ (a : GraphAnswer). a .graph) e), ap (λ (a : GraphAnswer). a .graph .pasts) e)
+
+removed-once : (x y : SmallRemoved) (slots slots′ : List (List ℕ)) (pasts pasts′ : List ℕ) → length slots ≡ columns → length slots′ ≡ columns
+    → leaves x slots pasts ≡ leaves y slots′ pasts′ → (x ≡ y) × (slots ≡ slots′) × (pasts ≡ pasts′)
+removed-once x y slots slots′ pasts pasts′ l m e =
+    (ap smallRemoved e, slots-same (x .graph) (y .graph) slots slots′ pasts pasts′ l m (ap (λ (a : Removed). a .graph) e), ap (λ (a : Removed). a .graph .pasts) e)
+
 -- ---- helpers of append that are public
 
 pub is-behind-once : Once is-behind
 is-behind-once κs a x y s t p q = one-answer p q
 
 pub empty-graph-once : Once empty-graph
-empty-graph-once κs a x y s t p q = one-answer p q
+empty-graph-once κs a x y s t p q = ap small (one-answer p q)
 
 -- ---- what is asked
 
@@ -67,22 +102,22 @@ is-critical-once κs a x y s t p q = one-answer p q
 
 -- ---- lists
 
-pub predecessors-once : OnceWith predecessors (λ κs s. now (s .1 .1 .0))
+pub predecessors-once : OnceWith predecessors (λ κs s. now (s .1 .1 .1 .0))
 predecessors-once κs a x y s t p q = lists-if-once p q
 
-pub concurrent-once : OnceWith concurrent (λ κs s. now (s .1 .1 .0))
+pub concurrent-once : OnceWith concurrent (λ κs s. now (s .1 .1 .1 .0))
 concurrent-once κs a x y s t p q = lists-if-once p q
 
 pub iter-once : OnceWith iter (λ κs s. now (s .1 .0))
 iter-once κs a x y s t p q = writes-once p q
 
-pub replica-events-once : OnceWith replica-events (λ κs s. now (s .1 .1 .1 .1 .0))
+pub replica-events-once : OnceWith replica-events (λ κs s. now (s .1 .1 .1 .1 .1 .0))
 replica-events-once κs a x y s t p q = lists-if-once p q
 
-pub direct-predecessors-once : OnceWith direct-predecessors (λ κs s. now (s .1 .1 .0))
+pub direct-predecessors-once : OnceWith direct-predecessors (λ κs s. now (s .1 .1 .1 .1 .0))
 direct-predecessors-once κs a x y s t p q = writes-once p q
 
-pub frontier-once : OnceWith frontier (λ κs s. now (s .1 .0))
+pub frontier-once : OnceWith frontier (λ κs s. now (s .1 .1 .0))
 frontier-once κs a x y s t p q = writes-once p q
 
 pub cuts-once : OnceWith cuts (λ κs s. now (s .1 .0))
@@ -91,22 +126,22 @@ cuts-once κs a x y s t p q = writes-once p q
 -- ---- what makes or changes a graph
 
 pub new-once : Once new
-new-once κs a x y s t p q = one-answer p q
+new-once κs a x y s t p q = ap smallAnswer (one-answer p q)
 
 pub from-checkpoint-once : Once from-checkpoint
-from-checkpoint-once κs a x y s t p q = one-answer p q
+from-checkpoint-once κs a x y s t p q = ap smallAnswer (one-answer p q)
 
-pub append-once : Once append
-append-once κs a x y s t p q = one-answer p q
+pub append-once : OnceTables append (λ κs s. now (s .1 .1 .1 .0)) (λ κs s. now (s .1 .1 .1 .1 .0))
+append-once κs a x y s t l m p q = answers-once x y _ _ _ _ l m (one-answer p q)
 
-pub remove-once : Once remove
-remove-once κs a x y s t p q = one-answer p q
+pub remove-once : OnceTables remove (λ κs s. now (s .1 .1 .0)) (λ κs s. now (s .1 .1 .1 .0))
+remove-once κs a x y s t l m p q = removed-once x y _ _ _ _ l m (one-answer p q)
 
-pub retain-once : Once retain
-retain-once κs a x y s t p q = one-answer p q
+pub retain-once : OnceTables retain (λ κs s. now (s .1 .1 .0)) (λ κs s. now (s .1 .1 .1 .0))
+retain-once κs a x y s t l m p q = removed-once x y _ _ _ _ l m (one-answer p q)
 
-pub prune-predecessors-once : Once prune-predecessors
-prune-predecessors-once κs a x y s t p q = one-answer p q
+pub prune-predecessors-once : OnceTables prune-predecessors (λ κs s. now (s .1 .1 .0)) (λ κs s. now (s .1 .1 .1 .0))
+prune-predecessors-once κs a x y s t l m p q = removed-once x y _ _ _ _ l m (one-answer p q)
 
-pub clear-once : Once clear
-clear-once κs a x y s t p q = one-answer p q
+pub clear-once : OnceTables clear (λ κs s. now (s .1 .0)) (λ κs s. now (s .1 .1 .0))
+clear-once κs a x y s t l m p q = removed-once x y _ _ _ _ l m (one-answer p q)

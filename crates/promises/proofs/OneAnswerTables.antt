@@ -1,9 +1,6 @@
 -- No second answer fits the contract of a public function of `tables`, one statement for each; `Post` as in OneAnswerClocks.antt. What writes a table leaves
 -- the same in it.
-use mathlib.Core.List.{List}
-use mathlib.Core.Path.{_≡_, refl}
-use Prim.Native.Nat.{ℕ}
-use lib.ListN.{length}
+use mathlib.Core.Path.{refl}
 use denote.Ref.{now}
 use Rattle.tables.proofs.mask.is_mask.Reads.{Post as is-mask}
 use Rattle.tables.proofs.mask.masked.Reads.{Post as masked}
@@ -31,10 +28,6 @@ use Rattle.promises.proofs.OneAnswer.{one-answer, writes-once, Once, On
 use Rattle.promises.proofs.OneAnswerSets.{one-set, reaches-once}
 use Rattle.promises.proofs.OneAnswerPositions.{OnceWhole}
 
--- a lent table of n numbers, as its type says: what is left in it is equal
-abbrev OnceLong : {K : Type 0} {A R S : K → Type 0} → ((κs : K) → A κs → R κs → S κs → Type 0) → ℕ → ((κs : K) → A κs → List ℕ) → ((κs : K) → S κs → List ℕ) → Type 0
-OnceLong {K} {A} {R} {S} P n e b = (κs : K) (a : A κs) (x y : R κs) (s t : S κs) → length (e κs a) ≡ n → P κs a x s → P κs a y t → (x ≡ y) × (b κs s ≡ b κs t)
-
 -- ---- a mask
 
 pub tables-is-mask-once : Once is-mask
@@ -53,8 +46,8 @@ tables-list-lengths-once κs a x y s t p q = writes-once p q
 
 -- ---- what closes ranks
 
-pub tables-close-once : Once close
-tables-close-once κs a x y s t p q = one-answer p q
+pub tables-close-once : OnceWith close (λ κs s. now (s .0))
+tables-close-once κs a x y s t p q = (refl, one-answer p q)
 
 pub tables-cuts-of-once : OnceWhole cuts-of
 tables-cuts-of-once κs a x y s t u w p q = one-set _ x y u w p q
@@ -62,8 +55,8 @@ tables-cuts-of-once κs a x y s t u w p q = one-set _ x y u w p q
 pub tables-highest-once : Once highest
 tables-highest-once κs a x y s t p q = one-answer p q
 
-pub tables-close-rows-once : Once close-rows
-tables-close-rows-once κs a x y s t p q = one-answer p q
+pub tables-close-rows-once : OnceWith close-rows (λ κs s. now (s .0))
+tables-close-rows-once κs a x y s t p q = (refl, one-answer p q)
 
 -- ---- the slots
 
@@ -107,8 +100,8 @@ tables-put-row-once κs a x y s t p q = (refl, one-answer p q)
 
 -- ---- a prefix that goes
 
-pub tables-close-tail-once : OnceLong close-tail 256 (λ κs a. now (a .0)) (λ κs s. now (s .0))
-tables-close-tail-once κs a x y s t l p q = (refl, one-answer (p l) (q l))
+pub tables-close-tail-once : OnceWith close-tail (λ κs s. now (s .0))
+tables-close-tail-once κs a x y s t p q = (refl, one-answer p q)
 
-pub tables-close-tail-rows-once : OnceLong close-tail-rows 1024 (λ κs a. now (a .0)) (λ κs s. now (s .0))
-tables-close-tail-rows-once κs a x y s t l p q = (refl, one-answer (p l) (q l))
+pub tables-close-tail-rows-once : OnceWith close-tail-rows (λ κs s. now (s .0))
+tables-close-tail-rows-once κs a x y s t p q = (refl, one-answer p q)

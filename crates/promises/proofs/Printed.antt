@@ -30,9 +30,9 @@ use Rattle.clocks.specs.declared.id.Disambiguator.{Disambiguator}
 use Rattle.clocks.specs.declared.id.Disambiguator.the-variants.{Absent, Number}
 use Rattle.clocks.specs.declared.id.EventId.{EventId}
 use Rattle.clocks.specs.declared.tagged_op.TaggedOp.{TaggedOp}
-use Rattle.graph.specs.declared.EventGraph.{EventGraph}
+use Rattle.graph.specs.Whole.{EventGraph}
 use Rattle.graph.specs.declared.Found.the-variants.{Op, NotFound}
-use Rattle.graph.specs.declared.Removed.{Removed}
+use Rattle.graph.specs.Whole.{Removed}
 use Rattle.promises.proofs.ReachedLog.{reached-ok, created-held, checkpointed-held}
 use Rattle.promises.proofs.Matching.{told}
 use Rattle.graph.specs.Graphs as graphs

@@ -1,8 +1,9 @@
 -- Every graph that calls reach is what the documents say.
 use Prim.Native.Nat.{ℕ}
+use Rattle.graph.specs.Whole.{EventGraph}
+use Rattle.graph.proofs.WalkLaws.{listed-parents, walked-heads}
 use Rattle.promises.specs.Reached.{Versions, Reached}
 use Rattle.promises.specs.Documented.{Documented}
-use Rattle.graph.specs.declared.EventGraph.{EventGraph}
 use Rattle.promises.proofs.LogOk.{LogOk}
 use Rattle.promises.proofs.ReachedLog.{reached-ok}
 use Rattle.promises.proofs.Documented.{past-exact, parent-exact, head-exact, cut-exact}
@@ -15,6 +16,8 @@ documented g W ok = record {
   past = past-exact g W ok;
   parent = parent-exact g W ok;
   head = head-exact g W ok;
+  listed = listed-parents g (ok .graph);
+  listedHeads = walked-heads g (ok .graph);
   cut = cut-exact g W ok;
   version = version-documented g W ok;
   prefix = prefix-documented g W ok;

@@ -10,6 +10,7 @@ use borrow.Author.Tests.{eqb-true, eqb-false}
 use Rattle.laws.specs.Counting.{pick, one}
 use Rattle.laws.proofs.Orders.{true-or-false}
 use Rattle.clocks.specs.Frontiers.{fromEntries}
+use Rattle.graph.specs.Whole.{EventGraph}
 use Rattle.graph.specs.Refusals.{refusalOf}
 use Rattle.graph.specs.Removals.{cleared}
 use Rattle.graph.specs.Invariant.{GraphOk, NotesOk}
@@ -18,7 +19,6 @@ use Rattle.graph.proofs.NotesLaws.{created-notes, checkpointed-notes, clear-not
 use Rattle.graph.proofs.MeaningLaws.{append-held, append-refused, remove-held, retain-held, flush-held, clear-held}
 use Rattle.promises.specs.Reached.{Versions, none, withVersion, Reached, created, checkpointed, append, flush, remove, retain, clear}
 use Rattle.clocks.specs.declared.event.Event.{Event}
-use Rattle.graph.specs.declared.EventGraph.{EventGraph}
 use Rattle.promises.proofs.LogOk.{LogOk}
 use Rattle.promises.proofs.AppendLog.{push-log}
 use Rattle.promises.proofs.RemainLog.{flush-log, remove-log, retain-log}

@@ -14,6 +14,7 @@ use Rattle.clocks.specs.Frontiers.{fromEntries}
 use Rattle.clocks.proofs.Frontiers.{made}
 use Rattle.positions.specs.Members.{setOf}
 use Rattle.positions.proofs.Compacting.{rank-rises}
+use Rattle.graph.specs.Whole.{EventGraph, Removed}
 use Rattle.graph.specs.Refusals.{covered}
 use Rattle.graph.specs.Cuts.{baseOf, prefixFrontier, atBase, isCritical}
 use Rattle.graph.specs.Removals.{kept, withoutId, retained, rootedAt, flushed}
@@ -28,8 +29,6 @@ use Rattle.graph.proofs.CriticalLaws.{AtCut, critical-cut, same-entries}
 use Rattle.graph.proofs.RemovalCases.{picks, picks-held, stays, stays-held, remove-cases, retain-cases, flush-cases}
 use Rattle.promises.specs.Reached.{Versions, versionAt}
 use Rattle.clocks.specs.declared.id.EventId.{EventId}
-use Rattle.graph.specs.declared.EventGraph.{EventGraph}
-use Rattle.graph.specs.declared.Removed.{Removed}
 use Rattle.promises.proofs.LogOk.{LogOk}
 use Rattle.promises.proofs.Documented.{before-of}
 

@@ -12,11 +12,11 @@ use Rattle.laws.proofs.Orders.{true-or-false}
 use Rattle.clocks.specs.Vectors.{entry}
 use Rattle.clocks.specs.Frontiers.{fromEntries}
 use Rattle.clocks.specs.Ids.{codeOf}
+use Rattle.graph.specs.Whole.{EventGraph}
 use Rattle.graph.specs.Graphs.{created, checkpointed}
 use Rattle.graph.specs.Invariant.{NotesOk, replicaAt, seqAt, codeAt}
 use Rattle.promises.specs.Reached.{Versions, none, versionAt}
 use Rattle.promises.specs.Demand.{Note, Last, never, at, Start, fresh, checkpoint, Among}
-use Rattle.graph.specs.declared.EventGraph.{EventGraph}
 
 -- slot k holds this note, which was last accepted with its version
 pub record NoteAt (g : EventGraph) (W : Versions) (k : ℕ) (n : Note) : Type 0 where

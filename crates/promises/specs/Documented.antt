@@ -9,14 +9,16 @@ use Rattle.laws.specs.Counting.{pick}
 use Rattle.clocks.specs.Vectors.{entry, wellFormed}
 use Rattle.positions.specs.Members.{has}
 use Rattle.tables.specs.Slots.{descends}
-use Rattle.graph.specs.Graphs.{parents, heads, appended}
+use Rattle.graph.specs.Whole.{EventGraph}
+use Rattle.graph.specs.Graphs.{placeOf, parents, heads, appended}
+use Rattle.graph.specs.Walks.{walkedParents, walkedHeads}
 use Rattle.graph.specs.Cuts.{isCritical, greatest}
 use Rattle.graph.specs.Removals.{flushed}
 use Rattle.graph.specs.Invariant.{replicaAt, seqAt}
 use Rattle.promises.specs.Reached.{Versions, versionAt}
 use Rattle.promises.specs.Demand.{SameNote}
 use Rattle.clocks.specs.declared.event.Event.{Event}
-use Rattle.graph.specs.declared.EventGraph.{EventGraph}
+use Rattle.clocks.specs.declared.id.EventId.{EventId}
 
 -- id.rs, is_predecessor_of: "Returns `true` if sequence number of the version for the replica id is greater OR equal."
 -- document 01: "A frontier contains an id by the same rule."
@@ -105,6 +107,9 @@ pub record Documented (g : EventGraph) (W : Versions) : Type 1 where
   pub past : (i j : ℕ) → i < g .held → (descends (g .pasts) i j ≡ true) ↔ Before g W j i
   pub parent : (i k : ℕ) → i < g .held → (parents g i k ≡ true) ↔ DirectParent g W k i
   pub head : (k : ℕ) → (heads g k ≡ true) ↔ Maximal g W k
+  -- what the walk of `direct_predecessors` and of `frontier` lists are these parents and heads; an id that is not held has no parents
+  pub listed : (id : EventId) (k : ℕ) → walkedParents g (placeOf g id) k ≡ parents g (placeOf g id) k
+  pub listedHeads : (k : ℕ) → walkedHeads g k ≡ heads g k
   pub cut : (k : ℕ) → (has (g .cuts) k ≡ true) ↔ IsCut g W (suc k)
   -- a recorded cut is the past of a critical version, and every critical version that is not empty makes one
   pub version : (n : ℕ) → IsCut g W n → CriticalVersion g W (MaximalBelow g W n) × ((i : ℕ) → Under g W (MaximalBelow g W n) i ↔ (i < n))

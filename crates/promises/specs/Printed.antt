@@ -5,7 +5,7 @@ use Rattle.graph.specs.Graphs.{eventAt}
 use Rattle.listing.specs.Sheets.{idText, SmallTag}
 use Rattle.promises.specs.Reached.{Versions, Reached, created, checkpointed, append, flush, remove, retain, clear}
 use Rattle.clocks.specs.declared.tagged_op.TaggedOp.{TaggedOp}
-use Rattle.graph.specs.declared.EventGraph.{EventGraph}
+use Rattle.graph.specs.Whole.{EventGraph}
 use Rattle.graph.specs.declared.Found.the-variants.{Op}
 
 -- events at two positions whose id fields are printed alike stand at one position

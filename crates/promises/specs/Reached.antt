@@ -7,11 +7,11 @@ use Prim.Native.Nat.{ℕ, _+_}
 use lib.Dec.{eqb}
 use Rattle.laws.specs.Counting.{pick, one}
 use Rattle.clocks.specs.Ids.{codeOf}
+use Rattle.graph.specs.Whole.{EventGraph}
 use Rattle.graph.specs.Removals.{flushed, withoutId, retained, cleared}
 use Rattle.graph.specs.Invariant.{replicaAt, seqAt, codeAt}
 use Rattle.clocks.specs.declared.event.Event.{Event}
 use Rattle.clocks.specs.declared.id.EventId.{EventId}
-use Rattle.graph.specs.declared.EventGraph.{EventGraph}
 use Rattle.graph.specs.Graphs as graphs
 
 -- by replica, sequence and the code of the disambiguator

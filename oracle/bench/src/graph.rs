@@ -15,7 +15,8 @@ use crate::{
 const HELD: usize = 256;
 
 unsafe extern "C" {
-    fn port_graph_append(rows: *const usize, len: usize, n: usize, rounds: usize) -> usize;
+    fn port_graph_append(rows: *const usize, len: usize, n: usize, rounds: usize, slots: *mut usize, pasts: *mut u64) -> usize;
+    fn port_graph_copies(rows: *const usize, len: usize, n: usize, rounds: usize, slots: *mut usize, pasts: *mut u64) -> usize;
     fn port_graph_greatest(rows: *const usize, len: usize, n: usize, q: *const usize, ql: usize, m: usize, rounds: usize) -> usize;
     fn port_graph_is_critical(rows: *const usize, len: usize, n: usize, q: *const usize, ql: usize, m: usize, rounds: usize) -> usize;
     fn port_graph_predecessors(rows: *const usize, len: usize, n: usize, q: *const usize, ql: usize, m: usize, rounds: usize, out: *mut usize, ol: usize) -> usize;
@@ -25,9 +26,9 @@ unsafe extern "C" {
     fn port_graph_get(rows: *const usize, len: usize, n: usize, q: *const usize, ql: usize, m: usize, rounds: usize) -> usize;
     fn port_graph_delivery_order(rows: *const usize, len: usize, n: usize, q: *const usize, ql: usize, m: usize, rounds: usize) -> usize;
     fn port_graph_roots(rows: *const usize, len: usize, n: usize, rounds: usize) -> usize;
-    fn port_graph_flush(rows: *const usize, len: usize, n: usize, q: *const usize, ql: usize, m: usize, rounds: usize) -> usize;
-    fn port_graph_remove(rows: *const usize, len: usize, n: usize, q: *const usize, ql: usize, m: usize, rounds: usize) -> usize;
-    fn port_graph_retain(rows: *const usize, len: usize, n: usize, mask: *const u8, ml: usize, rounds: usize) -> usize;
+    fn port_graph_flush(rows: *const usize, len: usize, n: usize, q: *const usize, ql: usize, m: usize, rounds: usize, slots: *mut usize, pasts: *mut u64) -> usize;
+    fn port_graph_remove(rows: *const usize, len: usize, n: usize, q: *const usize, ql: usize, m: usize, rounds: usize, slots: *mut usize, pasts: *mut u64) -> usize;
+    fn port_graph_retain(rows: *const usize, len: usize, n: usize, mask: *const u8, ml: usize, rounds: usize, slots: *mut usize, pasts: *mut u64) -> usize;
 }
 
 pub fn measure() -> Vec<Row> {
@@ -66,33 +67,31 @@ pub fn measure() -> Vec<Row> {
         };
         asked(rounds, HELD, each) - clone
     };
+    let copies = port.changes(1000, port_graph_copies);
+    println!("one copy of the graph's tables: {copies:.1} ns");
+    let changed_at = |call, note: &[usize]| port.changes_at(1000, call, note) - copies;
+    let masked = |call, mask: &[u8]| port.masks(1000, call, mask) - copies;
     let appends = |time: f64| time / HELD as f64;
-    let copy = copy_of::<2344>();
-    let not_slower = |call, ours, rust| Row { call, ours, rust, goal: 1.0, limit: 0.0 };
-    let look_up = |call, ours, rust| Row { call, ours, rust, goal: 1.0, limit: 2.0 * copy };
+    let copy = copy_of::<768>();
     let faster = |goal, call, ours, rust| Row { call, ours, rust, goal, limit: 0.0 };
+    let look_up = |call, ours, rust| Row { call, ours, rust, goal: 1.0, limit: copy };
     let n = 4000;
     vec![
-        faster(3.0, "append", appends(port.alone(40, port_graph_append)), appends(asked(10, HELD, |_| build()) - events_alone)),
-        not_slower("greatest", port.asks_all(n, port_graph_greatest), asked(n, HELD, |k| log.greatest_critical_frontier(&frontiers[k]))),
-        not_slower("is_critical", port.asks_all(n, port_graph_is_critical), asked(n, HELD, |k| log.is_critical(&frontiers[k]))),
-        not_slower("predecessors", port.lists(n, port_graph_predecessors), asked(n, HELD, |k| log.predecessors(&versions[k]))),
-        not_slower("concurrent", port.lists(n, port_graph_concurrent), asked(n, HELD, |k| log.concurrent(&versions[k]))),
-        not_slower("frontier", port.lists_all(n, port_graph_frontier), asked(n, HELD, |_| log.frontier())),
-        not_slower("direct_predecessors", port.lists(n, port_graph_direct_predecessors), asked(n, HELD, |k| log.direct_predecessors(&ids[k]))),
+        faster(10.0, "append", appends(port.changes(40, port_graph_append)), appends(asked(10, HELD, |_| build()) - events_alone)),
+        faster(3.0, "greatest", port.asks_all(n, port_graph_greatest), asked(n, HELD, |k| log.greatest_critical_frontier(&frontiers[k]))),
+        faster(3.0, "is_critical", port.asks_all(n, port_graph_is_critical), asked(n, HELD, |k| log.is_critical(&frontiers[k]))),
+        faster(3.0, "predecessors", port.lists(n, port_graph_predecessors), asked(n, HELD, |k| log.predecessors(&versions[k]))),
+        faster(3.0, "concurrent", port.lists(n, port_graph_concurrent), asked(n, HELD, |k| log.concurrent(&versions[k]))),
+        faster(3.0, "frontier", port.lists_all(n, port_graph_frontier), asked(n, HELD, |_| log.frontier())),
+        faster(1.0, "direct_predecessors", port.lists(n, port_graph_direct_predecessors), asked(n, HELD, |k| log.direct_predecessors(&ids[k]))),
         faster(
-            50.0,
+            60.0,
             "flush of half",
-            port.asks(1000, port_graph_flush, middle, 1),
+            changed_at(port_graph_flush, middle),
             changed(50, &|log| log.prune_predecessors(&frontiers[HELD / 2 - 1])),
         ),
-        faster(50.0, "remove from the middle", port.asks(1000, port_graph_remove, middle, 1), changed(10, &|log| log.remove(&ids[HELD / 2 - 1]))),
-        faster(
-            50.0,
-            "retain every second",
-            port.masks(1000, port_graph_retain, &mask),
-            changed(10, &|log| log.retain(|op| op.lamport().0 % 2 == 0)),
-        ),
+        faster(60.0, "remove from the middle", changed_at(port_graph_remove, middle), changed(10, &|log| log.remove(&ids[HELD / 2 - 1]))),
+        faster(60.0, "retain every second", masked(port_graph_retain, &mask), changed(10, &|log| log.retain(|op| op.lamport().0 % 2 == 0))),
         look_up("get", port.asks_all(n, port_graph_get), asked(n, HELD, |k| log.get(&ids[k]))),
         look_up("delivery_order", port.asks_all(n, port_graph_delivery_order), asked(n, HELD, |k| log.delivery_order(&ids[k]))),
         look_up("roots", port.alone(20_000, port_graph_roots), asked(20_000, HELD, |_| log.roots())),

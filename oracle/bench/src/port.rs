@@ -19,17 +19,51 @@ pub type Lists = unsafe extern "C" fn(
     ol: usize,
 ) -> usize;
 pub type ListsAll = unsafe extern "C" fn(rows: *const usize, len: usize, n: usize, rounds: usize, out: *mut usize, ol: usize) -> usize;
-pub type Masks = unsafe extern "C" fn(rows: *const usize, len: usize, n: usize, mask: *const u8, ml: usize, rounds: usize) -> usize;
+// A change is lent the graph's tables, which go over as their starts.
+pub type Changes = unsafe extern "C" fn(rows: *const usize, len: usize, n: usize, rounds: usize, slots: *mut usize, pasts: *mut u64) -> usize;
+pub type ChangesAt = unsafe extern "C" fn(
+    rows: *const usize,
+    len: usize,
+    n: usize,
+    q: *const usize,
+    ql: usize,
+    m: usize,
+    rounds: usize,
+    slots: *mut usize,
+    pasts: *mut u64,
+) -> usize;
+pub type Masks = unsafe extern "C" fn(
+    rows: *const usize,
+    len: usize,
+    n: usize,
+    mask: *const u8,
+    ml: usize,
+    rounds: usize,
+    slots: *mut usize,
+    pasts: *mut u64,
+) -> usize;
+
+/// Numbers for 256 slots: more columns than the graph has, and four words of ancestors.
+const COLUMNS: usize = 16;
+const SLOTS: usize = 256;
 
 pub struct Port {
     rows: Vec<usize>,
     held: usize,
     out: RefCell<Vec<usize>>,
+    slots: RefCell<Vec<usize>>,
+    pasts: RefCell<Vec<u64>>,
 }
 
 impl Port {
     pub fn new(rows: Vec<usize>, held: usize) -> Self {
-        Port { rows, held, out: RefCell::new(vec![0; 512]) }
+        Port {
+            rows,
+            held,
+            out: RefCell::new(vec![0; 512]),
+            slots: RefCell::new(vec![0; SLOTS * COLUMNS]),
+            pasts: RefCell::new(vec![0; SLOTS * 4]),
+        }
     }
 
     fn log(&self) -> (*const usize, usize, usize) {
@@ -44,17 +78,12 @@ impl Port {
         })
     }
 
-    /// The call about one of `m` notes in turn.
-    pub fn asks(&self, rounds: usize, call: Asks, queries: &[usize], m: usize) -> f64 {
+    /// The call about the notes of the log in turn.
+    pub fn asks_all(&self, rounds: usize, call: Asks) -> f64 {
         let (rows, len, n) = self.log();
         per_round(rounds, |k| unsafe {
-            black_box(call(rows, len, n, queries.as_ptr(), queries.len(), m, k));
+            black_box(call(rows, len, n, rows, len, n, k));
         })
-    }
-
-    /// The same about the notes of the log itself.
-    pub fn asks_all(&self, rounds: usize, call: Asks) -> f64 {
-        self.asks(rounds, call, &self.rows, self.held)
     }
 
     pub fn lists(&self, rounds: usize, call: Lists) -> f64 {
@@ -73,10 +102,29 @@ impl Port {
         })
     }
 
+    /// The change alone, in each round.
+    pub fn changes(&self, rounds: usize, call: Changes) -> f64 {
+        let (rows, len, n) = self.log();
+        let (mut slots, mut pasts) = (self.slots.borrow_mut(), self.pasts.borrow_mut());
+        per_round(rounds, |k| unsafe {
+            black_box(call(rows, len, n, k, slots.as_mut_ptr(), pasts.as_mut_ptr()));
+        })
+    }
+
+    /// The change at one note.
+    pub fn changes_at(&self, rounds: usize, call: ChangesAt, note: &[usize]) -> f64 {
+        let (rows, len, n) = self.log();
+        let (mut slots, mut pasts) = (self.slots.borrow_mut(), self.pasts.borrow_mut());
+        per_round(rounds, |k| unsafe {
+            black_box(call(rows, len, n, note.as_ptr(), note.len(), 1, k, slots.as_mut_ptr(), pasts.as_mut_ptr()));
+        })
+    }
+
     pub fn masks(&self, rounds: usize, call: Masks, mask: &[u8]) -> f64 {
         let (rows, len, n) = self.log();
+        let (mut slots, mut pasts) = (self.slots.borrow_mut(), self.pasts.borrow_mut());
         per_round(rounds, |k| unsafe {
-            black_box(call(rows, len, n, mask.as_ptr(), mask.len(), k));
+            black_box(call(rows, len, n, mask.as_ptr(), mask.len(), k, slots.as_mut_ptr(), pasts.as_mut_ptr()));
         })
     }
 }

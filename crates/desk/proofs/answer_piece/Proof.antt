@@ -8,10 +8,10 @@ use Rattle.desk.proofs.answer_piece.Statement.{statement}
 use Rattle.desk.proofs.answer_piece.Tie as tie
 
 abbrev Inv-loop : tie.InvT-loop
-Inv-loop piece line₀ out₀ held₀ log₀ at₀ i₀ line out held log at i = (length line ≡ length line₀) × (length out ≡ length out₀)
+Inv-loop piece line₀ out₀ slots₀ pasts₀ held₀ log₀ at₀ i₀ line out slots pasts held log at i = (length line ≡ length line₀) × (length out ≡ length out₀)
 
 abbrev μ-loop : tie.MeasureT-loop
-μ-loop piece line₀ out₀ held₀ log₀ at₀ i₀ line out held log at i = length piece - i
+μ-loop piece line₀ out₀ slots₀ pasts₀ held₀ log₀ at₀ i₀ line out slots pasts held log at i = length piece - i
 
 loop-holds : tie.Need-loop-holds Inv-loop μ-loop
 loop-holds c = search needs
@@ -29,7 +29,7 @@ fresh-requires : tie.Need-fresh-requires Inv-loop μ-loop
 fresh-requires c κs = tt
 
 loop-less : tie.Need-loop-less Inv-loop μ-loop
-loop-less c = let h = c .before .before .before .before .before .before .before .before .before .before .before .before .before .before .before .loop-test .taken in omega (arith, h, c .before .before .before .before .before .before .before .before .before .before .before .before .before .feed .ensures .forward h)
+loop-less c = let h = c .before .before .before .before .before .before .before .before .before .before .before .before .before .before .before .before .before .loop-test .taken in omega (arith, h, c .before .before .before .before .before .before .before .before .before .before .before .before .before .before .before .feed .ensures .forward h)
 
 loop-again : tie.Need-loop-again Inv-loop μ-loop
 loop-again c = search needs

@@ -6,10 +6,10 @@ use Rattle.desk.proofs.run.Statement.{statement}
 use Rattle.desk.proofs.run.Tie as tie
 
 abbrev Inv-loop : tie.InvT-loop
-Inv-loop input₀ line₀ out₀ log₀ held₀ turns₀ input line out log held turns = (length input ≡ length input₀) × (length line ≡ length line₀) × (length out ≡ length out₀)
+Inv-loop input₀ line₀ out₀ slots₀ pasts₀ log₀ held₀ turns₀ input line out slots pasts log held turns = (length input ≡ length input₀) × (length line ≡ length line₀) × (length out ≡ length out₀)
 
 abbrev μ-loop : tie.MeasureT-loop
-μ-loop input₀ line₀ out₀ log₀ held₀ turns₀ input line out log held turns = turns
+μ-loop input₀ line₀ out₀ slots₀ pasts₀ log₀ held₀ turns₀ input line out slots pasts log held turns = turns
 
 new-requires : tie.Need-new-requires Inv-loop μ-loop
 new-requires c κs = tt

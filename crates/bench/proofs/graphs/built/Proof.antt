@@ -5,10 +5,10 @@ use Rattle.bench.proofs.graphs.built.Statement.{statement}
 use Rattle.bench.proofs.graphs.built.Tie as tie
 
 abbrev Inv-loop : tie.InvT-loop
-Inv-loop rows n g₀ i₀ g i = i ≤ n
+Inv-loop rows n slots₀ pasts₀ g₀ i₀ slots pasts g i = i ≤ n
 
 abbrev μ-loop : tie.MeasureT-loop
-μ-loop rows n g₀ i₀ g i = n - i
+μ-loop rows n slots₀ pasts₀ g₀ i₀ slots pasts g i = n - i
 
 new-requires : tie.Need-new-requires Inv-loop μ-loop
 new-requires c κs = tt
@@ -19,14 +19,8 @@ loop-holds c = search needs
 row-requires : tie.Need-row-requires Inv-loop μ-loop
 row-requires c κs = tt
 
-event-requires : tie.Need-event-requires Inv-loop μ-loop
-event-requires c κs = tt
-
-version-requires : tie.Need-version-requires Inv-loop μ-loop
-version-requires c κs = tt
-
-append-requires : tie.Need-append-requires Inv-loop μ-loop
-append-requires c κs = tt
+noted-requires : tie.Need-noted-requires Inv-loop μ-loop
+noted-requires c κs = tt
 
 add-i : tie.Need-add-i Inv-loop μ-loop
 add-i c = search needs
@@ -49,9 +43,7 @@ built-spec =
     new-requires
     loop-holds
     row-requires
-    event-requires
-    version-requires
-    append-requires
+    noted-requires
     add-i
     loop-less
     loop-again

@@ -7,10 +7,10 @@ use Rattle.bench.proofs.graphs.port_graph_frontier.Statement.{statement
 use Rattle.bench.proofs.graphs.port_graph_frontier.Tie as tie
 
 abbrev Inv-loop : tie.InvT-loop
-Inv-loop rows n rounds out₀ g sum₀ k₀ out sum k = (k ≤ rounds) × (length out ≡ length out₀)
+Inv-loop rows n rounds out₀ pasts g sum₀ k₀ out sum k = (k ≤ rounds) × (length out ≡ length out₀)
 
 abbrev μ-loop : tie.MeasureT-loop
-μ-loop rows n rounds out₀ g sum₀ k₀ out sum k = rounds - k
+μ-loop rows n rounds out₀ pasts g sum₀ k₀ out sum k = rounds - k
 
 built-requires : tie.Need-built-requires Inv-loop μ-loop
 built-requires c κs = tt

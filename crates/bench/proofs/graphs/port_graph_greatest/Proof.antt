@@ -5,10 +5,10 @@ use Rattle.bench.proofs.graphs.port_graph_greatest.Statement.{statement
 use Rattle.bench.proofs.graphs.port_graph_greatest.Tie as tie
 
 abbrev Inv-loop : tie.InvT-loop
-Inv-loop rows n queries m rounds g sum₀ k₀ sum k = k ≤ rounds
+Inv-loop rows n queries m rounds slots g sum₀ k₀ sum k = k ≤ rounds
 
 abbrev μ-loop : tie.MeasureT-loop
-μ-loop rows n queries m rounds g sum₀ k₀ sum k = rounds - k
+μ-loop rows n queries m rounds slots g sum₀ k₀ sum k = rounds - k
 
 built-requires : tie.Need-built-requires Inv-loop μ-loop
 built-requires c κs = tt
@@ -25,11 +25,8 @@ version-requires c κs = tt
 greatest-critical-frontier-requires : tie.Need-greatest-critical-frontier-requires Inv-loop μ-loop
 greatest-critical-frontier-requires c κs = tt
 
-digit-requires : tie.Need-digit-requires Inv-loop μ-loop
-digit-requires c κs = tt
-
-size-requires : tie.Need-size-requires Inv-loop μ-loop
-size-requires c κs = tt
+reached-requires : tie.Need-reached-requires Inv-loop μ-loop
+reached-requires c κs = tt
 
 wrapping-add-usize-requires : tie.Need-wrapping-add-usize-requires Inv-loop μ-loop
 wrapping-add-usize-requires c κs = tt
@@ -57,8 +54,7 @@ port-graph-greatest-spec =
     asked-requires
     version-requires
     greatest-critical-frontier-requires
-    digit-requires
-    size-requires
+    reached-requires
     wrapping-add-usize-requires
     add-k
     loop-less

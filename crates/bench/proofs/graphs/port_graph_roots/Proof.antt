@@ -19,11 +19,8 @@ loop-holds c = search needs
 roots-requires : tie.Need-roots-requires Inv-loop μ-loop
 roots-requires c κs = tt
 
-digit-requires : tie.Need-digit-requires Inv-loop μ-loop
-digit-requires c κs = tt
-
-size-requires : tie.Need-size-requires Inv-loop μ-loop
-size-requires c κs = tt
+reached-requires : tie.Need-reached-requires Inv-loop μ-loop
+reached-requires c κs = tt
 
 wrapping-add-usize-requires : tie.Need-wrapping-add-usize-requires Inv-loop μ-loop
 wrapping-add-usize-requires c κs = tt
@@ -49,8 +46,7 @@ port-graph-roots-spec =
     built-requires
     loop-holds
     roots-requires
-    digit-requires
-    size-requires
+    reached-requires
     wrapping-add-usize-requires
     add-k
     loop-less

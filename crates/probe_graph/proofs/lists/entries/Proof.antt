@@ -7,10 +7,10 @@ use Rattle.probe_graph.proofs.lists.entries.Statement.{statement}
 use Rattle.probe_graph.proofs.lists.entries.Tie as tie
 
 abbrev Inv-loop : tie.InvT-loop
-Inv-loop word g list n out₀ at at₀ i₀ out at' i = (i ≤ n) × (length out ≡ length out₀)
+Inv-loop word g list n out₀ at slots at₀ i₀ out at' i = (i ≤ n) × (length out ≡ length out₀)
 
 abbrev μ-loop : tie.MeasureT-loop
-μ-loop word g list n out₀ at at₀ i₀ out at' i = n - i
+μ-loop word g list n out₀ at slots at₀ i₀ out at' i = n - i
 
 loop-holds : tie.Need-loop-holds Inv-loop μ-loop
 loop-holds c = search needs
