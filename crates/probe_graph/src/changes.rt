@@ -39,7 +39,7 @@ pub struct Change {
 
 pub fn word(line: &[u8], kinds: &[u8], values: &[usize]) -> usize {
     row(
-        b"g.new:n g.from:nv g.append:innv g.flush:v g.remove:i g.retain:m g.clear:",
+        b"g.new:n g.from:nv g.append:innrv g.flush:v g.remove:i g.retain:m g.clear:",
         line,
         kinds,
         values,
