@@ -53,11 +53,11 @@ new-requires c κs = search needs
 
 returns-4 : tie.Need-returns-4
 unfolding spacedRest
-returns-4 c = rw (sym (c .before .before .before .before .before .before .before .before .before .before .before .before .spaced-number .ensures) ∙ c .before .before .before .before .before .before .before .before .before .before .lamport .given .1, sym (c .before .before .before .before .before .before .before .before .spaced-number2 .ensures) ∙ c .before .before .before .before .before .before .payload .given .1, sym (c .before .before .before .before .spaced-number3 .ensures) ∙ c .before .before .revision .given .1, lt-ltb _ _ (c .before .if1 .taken), c .new .ensures)
+returns-4 c = rw (sym (c .before .before .before .before .before .before .before .before .before .before .before .before .before .spaced-number .ensures) ∙ c .before .before .before .before .before .before .before .before .before .before .before .lamport .given .1, sym (c .before .before .before .before .before .before .before .before .before .spaced-number2 .ensures) ∙ c .before .before .before .before .before .before .before .payload .given .1, sym (c .before .before .before .before .before .spaced-number3 .ensures) ∙ c .before .before .before .revision .given .1, lt-ltb _ _ (c .before .if1 .taken), c .new .ensures)
 
 returns-5 : tie.Need-returns-5
 unfolding spacedRest
-returns-5 c = rw (sym (c .before .before .before .before .before .before .before .before .before .before .before .spaced-number .ensures) ∙ c .before .before .before .before .before .before .before .before .before .lamport .given .1, sym (c .before .before .before .before .before .before .before .spaced-number2 .ensures) ∙ c .before .before .before .before .before .payload .given .1, sym (c .before .before .before .spaced-number3 .ensures) ∙ c .before .revision .given .1, le-ltb _ _ (c .if1 .left))
+returns-5 c = rw (sym (c .before .before .before .before .before .before .before .before .before .before .before .before .spaced-number .ensures) ∙ c .before .before .before .before .before .before .before .before .before .before .lamport .given .1, sym (c .before .before .before .before .before .before .before .before .spaced-number2 .ensures) ∙ c .before .before .before .before .before .before .payload .given .1, sym (c .before .before .before .before .spaced-number3 .ensures) ∙ c .before .before .revision .given .1, le-ltb _ _ (c .if1 .left))
 
 pub spaced-rest-spec : {M : Type 1} → statement M
 spaced-rest-spec =
