@@ -16,7 +16,7 @@ fn built(
     rows: &[usize],
     n: usize,
     versions: &mut [Seq; 8192],
-    notes: &mut [u64; 1536],
+    notes: &mut [u64; 2048],
     boundaries: &[Seq; 256],
 ) -> EventHistory {
     let a = EventHistory::new(16);
@@ -40,7 +40,7 @@ fn found(sum: usize, f: Found) -> usize {
 #[no_mangle]
 pub extern "C" fn port_history_append(rows: &[usize], n: usize, rounds: usize) -> usize {
     let mut versions = [0; 8192];
-    let mut notes = [0u64; 1536];
+    let mut notes = [0u64; 2048];
     let boundaries = [0; 256];
     let mut sum: usize = 0;
     for k in 0..rounds {
@@ -59,7 +59,7 @@ pub extern "C" fn port_history_get(
     rounds: usize,
 ) -> usize {
     let mut versions = [0; 8192];
-    let mut notes = [0u64; 1536];
+    let mut notes = [0u64; 2048];
     let boundaries = [0; 256];
     let h = built(rows, n, &mut versions, &mut notes, &boundaries);
     let mut sum: usize = 0;
@@ -78,7 +78,7 @@ pub extern "C" fn port_history_version(
     rounds: usize,
 ) -> usize {
     let mut versions = [0; 8192];
-    let mut notes = [0u64; 1536];
+    let mut notes = [0u64; 2048];
     let boundaries = [0; 256];
     let h = built(rows, n, &mut versions, &mut notes, &boundaries);
     let mut sum: usize = 0;
@@ -100,7 +100,7 @@ pub extern "C" fn port_history_previous(
     rounds: usize,
 ) -> usize {
     let mut versions = [0; 8192];
-    let mut notes = [0u64; 1536];
+    let mut notes = [0u64; 2048];
     let boundaries = [0; 256];
     let h = built(rows, n, &mut versions, &mut notes, &boundaries);
     previous_rounds(h, queries, m, rounds, &notes, &versions)
@@ -111,7 +111,7 @@ fn previous_rounds(
     queries: &[usize],
     m: usize,
     rounds: usize,
-    notes: &[u64; 1536],
+    notes: &[u64; 2048],
     versions: &[Seq; 8192],
 ) -> usize {
     let mut sum: usize = 0;
@@ -133,7 +133,7 @@ pub extern "C" fn port_history_next(
     rounds: usize,
 ) -> usize {
     let mut versions = [0; 8192];
-    let mut notes = [0u64; 1536];
+    let mut notes = [0u64; 2048];
     let boundaries = [0; 256];
     let h = built(rows, n, &mut versions, &mut notes, &boundaries);
     next_rounds(h, queries, m, rounds, &versions, &notes)
@@ -145,7 +145,7 @@ fn next_rounds(
     m: usize,
     rounds: usize,
     versions: &[Seq; 8192],
-    notes: &[u64; 1536],
+    notes: &[u64; 2048],
 ) -> usize {
     let mut sum: usize = 0;
     for k in 0..rounds {
@@ -167,7 +167,7 @@ pub extern "C" fn port_history_predecessors(
     out: &mut [usize],
 ) -> usize {
     let mut versions = [0; 8192];
-    let mut notes = [0u64; 1536];
+    let mut notes = [0u64; 2048];
     let boundaries = [0; 256];
     let h = built(rows, n, &mut versions, &mut notes, &boundaries);
     let mut sum: usize = 0;
@@ -187,7 +187,7 @@ pub extern "C" fn port_history_concurrent(
     out: &mut [usize],
 ) -> usize {
     let mut versions = [0; 8192];
-    let mut notes = [0u64; 1536];
+    let mut notes = [0u64; 2048];
     let boundaries = [0; 256];
     let h = built(rows, n, &mut versions, &mut notes, &boundaries);
     let mut sum: usize = 0;
@@ -205,7 +205,7 @@ pub extern "C" fn port_history_iter(
     out: &mut [usize],
 ) -> usize {
     let mut versions = [0; 8192];
-    let mut notes = [0u64; 1536];
+    let mut notes = [0u64; 2048];
     let boundaries = [0; 256];
     let h = built(rows, n, &mut versions, &mut notes, &boundaries);
     let mut sum: usize = 0;
@@ -225,7 +225,7 @@ pub extern "C" fn port_history_replica_events(
     out: &mut [usize],
 ) -> usize {
     let mut versions = [0; 8192];
-    let mut notes = [0u64; 1536];
+    let mut notes = [0u64; 2048];
     let boundaries = [0; 256];
     let h = built(rows, n, &mut versions, &mut notes, &boundaries);
     let mut sum: usize = 0;
@@ -246,7 +246,7 @@ pub extern "C" fn port_history_newly(
     out: &mut [usize],
 ) -> usize {
     let mut versions = [0; 8192];
-    let mut notes = [0u64; 1536];
+    let mut notes = [0u64; 2048];
     let boundaries = [0; 256];
     let h = built(rows, n, &mut versions, &mut notes, &boundaries);
     newly_rounds(h, queries, m, rounds, &notes, &versions, &boundaries, out)
@@ -257,7 +257,7 @@ fn newly_rounds<'a>(
     queries: &[usize],
     m: usize,
     rounds: usize,
-    notes: &[u64; 1536],
+    notes: &[u64; 2048],
     versions: &'a [Seq; 8192],
     boundaries: &'a [Seq; 256],
     out: &mut [usize],

@@ -1,4 +1,4 @@
-// Notes as rows of numbers, which the benchmark lends: origin, sequence, Lamport number, payload, then a version of 16 entries.
+// Notes as rows of numbers, which the benchmark lends: origin, sequence, Lamport number, payload, then a version of 16 entries. All are for revision 0.
 use clocks::event::Event;
 use clocks::id::EventId;
 use clocks::refusal::Listed;
@@ -38,7 +38,7 @@ pub fn id(row: &[usize]) -> EventId {
 }
 
 pub fn event(row: &[usize]) -> Event {
-    Event::new(id(row), wide(entry(row, 2)), wide(entry(row, 3)))
+    Event::new(id(row), wide(entry(row, 2)), wide(entry(row, 3)), 0)
 }
 
 pub fn replica(row: &[usize]) -> ReplicaIdx {

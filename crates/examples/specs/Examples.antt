@@ -16,9 +16,9 @@ use Rattle.clocks.specs.declared.event.Event.{Event}
 use Rattle.clocks.specs.declared.id.Disambiguator.the-variants.{Absent}
 use Rattle.graph.specs.declared.FrontierFound.{FrontierFound}
 
--- the events of G with their versions
+-- the events of G with their versions, all for revision 0
 abbrev pub note : ℕ → ℕ → ℕ → ℕ → Event
-note r s l p = record { id = record { idx = record { 0 = r }; seq = s; disambiguator = Absent }; lamport = l; op = p }
+note r s l p = record { id = record { idx = record { 0 = r }; seq = s; disambiguator = Absent }; lamport = l; op = p; revision = 0 }
 
 abbrev pub addA : EventGraph → EventGraph
 addA g = appended g (note 0 1 1 10) (1 ∷ 0 ∷ 0 ∷ []) .graph
@@ -80,8 +80,8 @@ starred =
     ∷ is (cutsOf withoutB) (1 ∷ 2 ∷ 3 ∷ [])
     ∷ is (parentsOf withoutB (note 0 2 3 13)) (1 ∷ [])
     ∷ is (parentsOf withoutB (note 2 1 2 12)) (0 ∷ [])
-    ∷ eqb (refusalOf (addB fresh) (note 0 1 1 10 .id) (1 ∷ 0 ∷ 0 ∷ [])) lateNo
-    ∷ eqb (refusalOf (addB (addA fresh)) (note 2 1 2 12 .id) (0 ∷ 1 ∷ 1 ∷ [])) notClosedNo
+    ∷ eqb (refusalOf (addB fresh) (note 0 1 1 10 .id) 0 (1 ∷ 0 ∷ 0 ∷ [])) lateNo
+    ∷ eqb (refusalOf (addB (addA fresh)) (note 2 1 2 12 .id) 0 (0 ∷ 1 ∷ 1 ∷ [])) notClosedNo
     ∷ []
 
 -- every test of a table holds

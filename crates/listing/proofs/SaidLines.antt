@@ -8,10 +8,11 @@ use borrow.Author.Tests.{lt-ltb, le-ltb, le-leb}
 use Rattle.text.specs.Numbers.{digitsIn, spelled}
 use Rattle.text.specs.Bytes.{bytesBefore}
 use Rattle.text.proofs.Spelling.{digits-le}
-use Rattle.listing.specs.Commands.{replicasLine, removeLine, sheetLine, vectorLine, vectorAt, appendLine, byWord, lineTold}
+use Rattle.listing.specs.Commands.{replicasLine, removeLine, sheetLine, vectorLine, vectorAt, spacedRest, spacedNote, appendLine, byWord, lineTold}
 use Rattle.listing.specs.Laying.{joined, spaced}
 use Rattle.listing.specs.Sheets.{SmallId}
 use Rattle.listing.specs.Words.{bytes, sameBytes}
+use Rattle.clocks.specs.declared.event.Event.{Event}
 use Rattle.clocks.specs.declared.id.Disambiguator.{Disambiguator}
 use Rattle.clocks.specs.declared.id.Disambiguator.the-variants.{Absent, Number as number}
 use Rattle.clocks.specs.declared.id.EventId.{EventId}
@@ -92,19 +93,35 @@ read-remove id small =
     let told = id-at s [] 6 id refl small refl in
     rw (le-ltb 512 (length s) (omega (arith, length-append (bytes "remove") (idThen id []), id-le id [])), told .1, le-leb _ _ (end-left s _ (told .2)))
 
-pub read-append : (id : EventId) (l p : ℕ) (v : List ℕ) → SmallId id → l < 2 ^ 64 → p < 2 ^ 64 → Sayable v
-    → lineTold 16 (bytes "append" ++ idThen id (text (l ∷ p ∷ v))) ≡ (Line (Append id l p (length v)), v)
-unfolding lineTold byWord bytesBefore sameBytes bytes joined spaced appendLine digitsIn
-read-append id l p v small hl hp ok =
-    let rest : List ℕ = text (l ∷ p ∷ v) in
-    let s : List ℕ = bytes "append" ++ idThen id rest in
-    let named = id-at s rest 6 id refl small refl in
-    let lamport = spaced-at s (text (p ∷ v)) (named .0) l (named .2) hl refl in
-    let payload = spaced-at s (text v) (named .0 + 1 + length (spelled l)) p (lamport .1) hp (digits-text v) in
+-- the text of a note's fields, and what follows it
+abbrev pub noteThen : Event → List ℕ → List ℕ
+noteThen e v = idThen (e .id) (text (e .lamport ∷ e .op ∷ e .revision ∷ v))
+
+-- an event whose numbers are of their types
+pub record SmallEvent (e : Event) : Type 0 where
+  pub id : SmallId (e .id)
+  pub lamport : e .lamport < 2 ^ 64
+  pub op : e .op < 2 ^ 64
+  pub revision : e .revision < 2 ^ 32
+
+pub read-append : (e : Event) (v : List ℕ) → SmallEvent e → Sayable v → lineTold 16 (bytes "append" ++ noteThen e v) ≡ (Line (Append e (length v)), v)
+unfolding lineTold byWord bytesBefore sameBytes bytes joined spaced appendLine spacedNote spacedRest digitsIn
+read-append e v small ok =
+    let l = e .lamport in
+    let p = e .op in
+    let r = e .revision in
+    let rest : List ℕ = text (l ∷ p ∷ r ∷ v) in
+    let s : List ℕ = bytes "append" ++ idThen (e .id) rest in
+    let named = id-at s rest 6 (e .id) refl (small .id) refl in
+    let lamport = spaced-at s (text (p ∷ r ∷ v)) (named .0) l (named .2) (small .lamport) refl in
+    let payload = spaced-at s (text (r ∷ v)) (named .0 + 1 + length (spelled l)) p (lamport .1) (small .op) refl in
+    let revision = spaced-at s (text v) (named .0 + 1 + length (spelled l) + 1 + length (spelled p)) r (payload .1) (omega (arith, small .revision)) (digits-text v) in
     rw (
-      le-ltb 512 (length s) (omega (arith, length-append (bytes "append") (idThen id rest), id-le id rest, size-spaced (l ∷ p ∷ v), ok .room)),
+      le-ltb 512 (length s) (omega (arith, length-append (bytes "append") (idThen (e .id) rest), id-le (e .id) rest, size-spaced (l ∷ p ∷ r ∷ v), ok .room)),
       named .1,
       lamport .0,
       payload .0,
+      revision .0,
+      lt-ltb r (2 ^ 32) (small .revision),
     )
-    (vector-told (λ n. Append id l p n) s (named .0 + 1 + length (spelled l) + 1 + length (spelled p)) v ok (payload .1))
+    (vector-told (λ n. Append e n) s (named .0 + 1 + length (spelled l) + 1 + length (spelled p) + 1 + length (spelled r)) v ok (revision .1))

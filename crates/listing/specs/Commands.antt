@@ -9,6 +9,7 @@ use Rattle.laws.specs.Counting.{pick}
 use Rattle.laws.specs.Lists.{written}
 use Rattle.text.specs.Numbers.{numberAt}
 use Rattle.listing.specs.Words.{bytes, sameBytes, beforeSpace}
+use Rattle.clocks.specs.declared.event.Event.{Event}
 use Rattle.clocks.specs.declared.id.Disambiguator.{Disambiguator}
 use Rattle.clocks.specs.declared.id.Disambiguator.the-variants.{Absent, Number as number}
 use Rattle.clocks.specs.declared.id.EventId.{EventId}
@@ -18,6 +19,8 @@ use Rattle.listing.specs.declared.fields.Tag.{Tag}
 use Rattle.listing.specs.declared.fields.Tag.the-variants.{Given, NoTag}
 use Rattle.listing.specs.declared.fields.Named.{Named}
 use Rattle.listing.specs.declared.fields.Named.the-variants.{Id, NoId}
+use Rattle.listing.specs.declared.fields.Noted.{Noted}
+use Rattle.listing.specs.declared.fields.Noted.the-variants.{Note, NoNote}
 use Rattle.listing.specs.declared.fields.Vector.{Vector}
 use Rattle.listing.specs.declared.fields.Vector.the-variants.{Entries, NoVector}
 use Rattle.listing.specs.declared.command.Command.{Command}
@@ -46,6 +49,10 @@ abbrev pub withId : {A : Type 0} → Named → A → (EventId → ℕ → A) →
 withId (Id i next) none f = f i next
 withId NoId none f = none
 
+abbrev pub withNote : {A : Type 0} → Noted → A → (Event → ℕ → A) → A
+withNote (Note e next) none f = f e next
+withNote NoNote none f = none
+
 -- the number behind a single space, byte 32, at a place
 unfoldable pub spacedNumber : List ℕ → ℕ → Number
 spacedNumber s at = pick (eqb (getD s at 0) 32) (numberAt s (at + 1)) Bad
@@ -66,6 +73,18 @@ spacedId s at =
     withNumber (spacedNumber s behindO) NoId (λ q behindS.
     withTag (spacedTag s behindS) NoId (λ d next.
     Id (record { idx = record { 0 = o }; seq = q; disambiguator = d }) next)))
+
+-- L P REV behind an id: a revision is below 2^32
+unfoldable pub spacedRest : List ℕ → ℕ → EventId → Noted
+spacedRest s at i =
+    withNumber (spacedNumber s at) NoNote (λ l behindL.
+    withNumber (spacedNumber s behindL) NoNote (λ p behindP.
+    withNumber (spacedNumber s behindP) NoNote (λ rev next.
+    pick (ltb rev (2 ^ 32)) (Note (record { id = i; lamport = l; op = p; revision = rev }) next) NoNote)))
+
+-- O S D L P REV
+unfoldable pub spacedNote : List ℕ → ℕ → Noted
+spacedNote s at = withId (spacedId s at) NoNote (λ i next. spacedRest s next i)
 
 -- the numbers that stand one behind the other from a place on, at most so many
 unfoldable pub entries : ℕ → List ℕ → ℕ → List ℕ
@@ -113,13 +132,9 @@ sheetLine s at = pick (leb (length s) at) (Line Sheet, []) nothing
 unfoldable pub vectorLine : (ℕ → Command) → ℕ → List ℕ → ℕ → Told
 vectorLine make room s at = (withVector (vectorAt room s at) make, entries (most room) s at)
 
--- append O S D L P v..
+-- append O S D L P REV v..
 unfoldable pub appendLine : ℕ → List ℕ → ℕ → Told
-appendLine room s at =
-    withId (spacedId s at) nothing (λ i behindD.
-    withNumber (spacedNumber s behindD) nothing (λ l behindL.
-    withNumber (spacedNumber s behindL) nothing (λ p behindP.
-    vectorLine (λ n. Append i l p n) room s behindP)))
+appendLine room s at = withNote (spacedNote s at) nothing (λ e behindNote. vectorLine (λ n. Append e n) room s behindNote)
 
 -- by the line's first word
 unfoldable pub byWord : ℕ → List ℕ → List ℕ → Told

@@ -3,10 +3,13 @@ ghost use mathlib.Core.Path.{_≡_};
 ghost use lib.ListN.{length};
 ghost use Rattle.listing.specs.Commands.{Tells, replicasLine, removeLine, sheetLine, vectorLine, appendLine, byWord, lineTold};
 use crate::fields::Named;
+use crate::fields::Noted;
 use crate::fields::Vector;
 use crate::fields::read_vector;
 use crate::fields::spaced_id;
+use crate::fields::spaced_note;
 use crate::fields::spaced_number;
+use clocks::event::Event;
 use clocks::id::EventId;
 use clocks::vector::Seq;
 use numbers::size;
@@ -21,8 +24,8 @@ pub const LONGEST_LINE: usize = 512;
 pub enum Command {
     // R.
     Replicas(usize),
-    // The id, the Lamport number, the payload, and the version.
-    Append(EventId, u64, u64, usize),
+    // The event, and its version.
+    Append(Event, usize),
     // The bound.
     Greatest(usize),
     // The frontier.
@@ -110,27 +113,19 @@ fn flush_line(s: &[u8], at: usize, vector: &mut [Seq]) -> Read
     Read::Line(Command::Flush(n))
 }
 
-// append O S D L P v..
+// append O S D L P REV v..
 fn append_line(s: &[u8], at: usize, vector: &mut [Seq]) -> Read
     ensures { λ r. ⌜ Tells (appendLine (length (now (vector .entry))) (now (s .entry)) at) (now (vector .entry)) (now (vector .exit)) r ⌝ }
 {
-    let named = spaced_id(s, at);
-    let Named::Id(id, behind_id) = named else {
+    let noted = spaced_note(s, at);
+    let Noted::Note(event, next) = noted else {
         return Read::NoLine;
     };
-    let lamport = spaced_number(s, behind_id);
-    let Number::Value(l, behind_lamport) = lamport else {
-        return Read::NoLine;
-    };
-    let payload = spaced_number(s, behind_lamport);
-    let Number::Value(p, behind_payload) = payload else {
-        return Read::NoLine;
-    };
-    let v = read_vector(s, behind_payload, vector);
+    let v = read_vector(s, next, vector);
     let Vector::Entries(n) = v else {
         return Read::NoLine;
     };
-    Read::Line(Command::Append(id, l, p, n))
+    Read::Line(Command::Append(event, n))
 }
 
 // By the line's first word.

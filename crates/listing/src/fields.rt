@@ -2,7 +2,8 @@
 ghost use mathlib.Core.Path.{_≡_};
 ghost use lib.ListN.{length};
 ghost use Rattle.laws.specs.Lists.{written};
-ghost use Rattle.listing.specs.Commands.{spacedNumber, spacedTag, spacedId, most, entries, entriesEnd, vectorAt, narrowed};
+ghost use Rattle.listing.specs.Commands.{spacedNumber, spacedTag, spacedId, spacedRest, spacedNote, most, entries, entriesEnd, vectorAt, narrowed};
+use clocks::event::Event;
 use clocks::id::Disambiguator;
 use clocks::id::EventId;
 use clocks::replica::ReplicaIdx;
@@ -26,6 +27,12 @@ pub enum Tag {
 pub enum Named {
     Id(EventId, usize),
     NoId,
+}
+
+// A note's event with the place behind it, or something else.
+pub enum Noted {
+    Note(Event, usize),
+    NoNote,
 }
 
 // How many entries a vector has, or none that the rules allow.
@@ -94,6 +101,39 @@ pub fn spaced_id(s: &[u8], at: usize) -> Named
     };
     let id = EventId::new_with_disambiguator(ReplicaIdx(size(o)), size(q), d);
     Named::Id(id, next)
+}
+
+// L P REV behind an id, each behind a single space. A revision is below 2^32.
+fn spaced_rest(s: &[u8], at: usize, id: EventId) -> Noted
+    ensures { λ r. ⌜ r ≡ spacedRest (now (s .entry)) at id ⌝ }
+{
+    let lamport = spaced_number(s, at);
+    let Number::Value(l, behind_lamport) = lamport else {
+        return Noted::NoNote;
+    };
+    let payload = spaced_number(s, behind_lamport);
+    let Number::Value(p, behind_payload) = payload else {
+        return Noted::NoNote;
+    };
+    let revision = spaced_number(s, behind_payload);
+    let Number::Value(rev, next) = revision else {
+        return Noted::NoNote;
+    };
+    if rev < 0x1_0000_0000 {
+        return Noted::Note(Event::new(id, l, p, rev as u32), next);
+    }
+    Noted::NoNote
+}
+
+// O S D L P REV, each behind a single space.
+pub fn spaced_note(s: &[u8], at: usize) -> Noted
+    ensures { λ r. ⌜ r ≡ spacedNote (now (s .entry)) at ⌝ }
+{
+    let named = spaced_id(s, at);
+    let Named::Id(id, next) = named else {
+        return Noted::NoNote;
+    };
+    spaced_rest(s, next, id)
 }
 
 // The numbers from a place on, written from the buffer's start.

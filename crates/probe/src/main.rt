@@ -138,7 +138,7 @@ fn run(
     line: &mut Line,
     out: &mut Piece,
     versions: &mut [Seq; 8192],
-    notes: &mut [u64; 1536],
+    notes: &mut [u64; 2048],
     boundaries: &mut [Seq; 256],
     slots: &mut Slots,
     pasts: &mut Pasts,
@@ -173,7 +173,7 @@ fn main() {
     let mut line = io::buffer();
     let mut out = io::large_buffer();
     let mut versions = [0; 8192];
-    let mut notes = [0u64; 1536];
+    let mut notes = [0u64; 2048];
     let mut boundaries = [0; 256];
     let mut slots = [[0; 256]; COLUMNS];
     let mut pasts = [0u64; 1024];

@@ -101,7 +101,7 @@ pub fn answer(
     line: &[u8],
     out: &mut [u8; 65_536],
     versions: &mut [Seq; 8192],
-    notes: &mut [u64; 1536],
+    notes: &mut [u64; 2048],
     boundaries: &mut [Seq; 256],
     slots: &mut Slots,
     pasts: &mut Pasts,
@@ -167,7 +167,7 @@ fn history_word(
     values: &[usize],
     out: &mut [u8; 65_536],
     versions: &mut [Seq; 8192],
-    notes: &mut [u64; 1536],
+    notes: &mut [u64; 2048],
     boundaries: &mut [Seq; 256],
 ) -> State {
     st.traced(probe_history::answer(
@@ -191,7 +191,7 @@ fn by_word(
     values: &[usize],
     out: &mut [u8; 65_536],
     versions: &mut [Seq; 8192],
-    notes: &mut [u64; 1536],
+    notes: &mut [u64; 2048],
     boundaries: &mut [Seq; 256],
     slots: &mut Slots,
     pasts: &mut Pasts,

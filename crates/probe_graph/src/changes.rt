@@ -39,7 +39,7 @@ pub struct Change {
 
 pub fn word(line: &[u8], kinds: &[u8], values: &[usize]) -> usize {
     row(
-        b"g.new:n g.from:nv g.append:innv g.flush:v g.remove:i g.retain:m g.clear:",
+        b"g.new:n g.from:nv g.append:innrv g.flush:v g.remove:i g.retain:m g.clear:",
         line,
         kinds,
         values,
@@ -92,7 +92,7 @@ fn turned(
     match word {
         APPEND => appended(
             g,
-            g.append(event(kinds, values), vector(kinds, values, 5), slots, pasts),
+            g.append(event(kinds, values), vector(kinds, values, 6), slots, pasts),
         ),
         FLUSH => removed(g, g.prune_predecessors(values, slots, pasts)),
         REMOVE => removed(g, g.remove(id(kinds, values), slots, pasts)),

@@ -35,7 +35,8 @@ pub fn no_log() -> Log {
 // A number that tells two contents of the tables apart.
 fn tables_digest(slots: &Slots, pasts: &Pasts) -> u64 {
     let ids = digest(&slots[0]) ^ (digest(&slots[1]) << 1) ^ (digest(&slots[2]) << 2);
-    ids ^ (digest(&slots[3]) << 3) ^ (digest(&slots[4]) << 4) ^ (words_digest(pasts) << 5)
+    let notes = (digest(&slots[3]) << 3) ^ (digest(&slots[4]) << 4) ^ (digest(&slots[5]) << 5);
+    ids ^ notes ^ (words_digest(pasts) << 6)
 }
 
 pub fn answer(

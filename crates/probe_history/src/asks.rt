@@ -35,7 +35,7 @@ pub fn asked(
     kinds: &[u8],
     values: &[usize],
     versions: &[Seq; 8192],
-    notes: &[u64; 1536],
+    notes: &[u64; 2048],
 ) -> Answer {
     let id = id(kinds, values);
     let r = ReplicaIdx(entry(values, 3));

@@ -36,7 +36,7 @@ pub struct Change {
 
 pub fn word(line: &[u8], kinds: &[u8], values: &[usize]) -> usize {
     row(
-        b"h.new:n h.append:innv h.prune:v h.remove:i h.retain:m h.clear:",
+        b"h.new:n h.append:innrv h.prune:v h.remove:i h.retain:m h.clear:",
         line,
         kinds,
         values,
@@ -49,7 +49,7 @@ pub fn called(
     kinds: &[u8],
     values: &[usize],
     versions: &mut [Seq; 8192],
-    notes: &mut [u64; 1536],
+    notes: &mut [u64; 2048],
     boundaries: &mut [Seq; 256],
 ) -> Change {
     if word == NEW {
@@ -61,7 +61,7 @@ pub fn called(
     let h = t.history;
     if word == APPEND {
         let event = event(kinds, values);
-        let v = vector(kinds, values, 5);
+        let v = vector(kinds, values, 6);
         return appended(h, h.append(event, v, versions, notes, boundaries));
     }
     taken(word, h, kinds, values, versions, boundaries)

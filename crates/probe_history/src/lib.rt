@@ -35,7 +35,7 @@ pub fn no_traces() -> Traces {
 }
 
 // A number that tells two contents of the tables apart.
-fn tables_digest(versions: &[Seq; 8192], notes: &[u64; 1536], boundaries: &[Seq; 256]) -> u64 {
+fn tables_digest(versions: &[Seq; 8192], notes: &[u64; 2048], boundaries: &[Seq; 256]) -> u64 {
     digest(versions) ^ (words_digest(notes) << 1) ^ (digest(boundaries) << 2)
 }
 
@@ -48,7 +48,7 @@ pub fn answer(
     out: &mut [u8],
     at: usize,
     versions: &mut [Seq; 8192],
-    notes: &mut [u64; 1536],
+    notes: &mut [u64; 2048],
     boundaries: &mut [Seq; 256],
 ) -> Traced {
     let word = changes::word(line, kinds, values);
@@ -81,7 +81,7 @@ fn changed(
     out: &mut [u8],
     at: usize,
     versions: &mut [Seq; 8192],
-    notes: &mut [u64; 1536],
+    notes: &mut [u64; 2048],
     boundaries: &mut [Seq; 256],
 ) -> Traced {
     let before = tables_digest(versions, notes, boundaries);
@@ -117,7 +117,7 @@ fn asked<'a>(
     out: &mut [u8],
     at: usize,
     versions: &'a [Seq; 8192],
-    notes: &[u64; 1536],
+    notes: &[u64; 2048],
     boundaries: &'a [Seq; 256],
 ) -> usize {
     let h = t.history;

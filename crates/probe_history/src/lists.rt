@@ -40,7 +40,7 @@ fn called<'a>(
     values: &[usize],
     list: &mut [usize],
     versions: &'a [Seq; 8192],
-    notes: &[u64; 1536],
+    notes: &[u64; 2048],
     boundaries: &'a [Seq; 256],
 ) -> Listed {
     match word {
@@ -68,7 +68,7 @@ pub fn listed<'a>(
     out: &mut [u8],
     at: usize,
     versions: &'a [Seq; 8192],
-    notes: &[u64; 1536],
+    notes: &[u64; 2048],
     boundaries: &'a [Seq; 256],
 ) -> usize {
     let mut list = [PATTERN; MOST_ROOM];
@@ -99,7 +99,7 @@ fn lent<'a>(
     out: &mut [u8],
     at: usize,
     versions: &'a [Seq; 8192],
-    notes: &[u64; 1536],
+    notes: &[u64; 2048],
     boundaries: &'a [Seq; 256],
 ) -> usize {
     let answer = called(word, h, kinds, values, list, versions, notes, boundaries);
@@ -112,7 +112,7 @@ fn told(
     list: &[usize],
     out: &mut [u8],
     at: usize,
-    notes: &[u64; 1536],
+    notes: &[u64; 2048],
 ) -> usize {
     let n = count(listed);
     let at = answers::bare(out, at, refusal(listed));
@@ -127,7 +127,7 @@ fn entries(
     n: usize,
     out: &mut [u8],
     at: usize,
-    notes: &[u64; 1536],
+    notes: &[u64; 2048],
 ) -> usize {
     let mut at = at;
     for i in 0..n {

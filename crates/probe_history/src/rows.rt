@@ -19,7 +19,7 @@ pub fn called<'a>(
     kinds: &[u8],
     values: &[usize],
     versions: &'a [Seq; 8192],
-    notes: &[u64; 1536],
+    notes: &[u64; 2048],
     boundaries: &'a [Seq; 256],
 ) -> &'a [Seq] {
     if word == VERSION {

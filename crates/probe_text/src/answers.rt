@@ -70,7 +70,8 @@ pub fn id(out: &mut [u8], at: usize, id: EventId) -> usize {
 pub fn event(out: &mut [u8], at: usize, op: TaggedOp) -> usize {
     let at = id(out, at, op.id());
     let at = marked(out, at, b':', op.lamport());
-    marked(out, at, b':', op.op)
+    let at = marked(out, at, b':', op.op);
+    marked(out, at, b':', op.revision as u64)
 }
 
 fn comparison(out: &mut [u8], at: usize, c: Comparison) -> usize {

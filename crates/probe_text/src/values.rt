@@ -8,6 +8,7 @@ use clocks::id::Disambiguator;
 use clocks::id::EventId;
 use clocks::replica::ReplicaIdx;
 use numbers::entry;
+use numbers::narrow;
 use numbers::wide;
 use text::bytes::byte_at;
 
@@ -41,10 +42,11 @@ pub fn id(kinds: &[u8], values: &[usize]) -> EventId {
     EventId::new_with_disambiguator(replica, entry(values, 1), d)
 }
 
-// The event that an id, a Lamport number and a payload give.
+// The event that an id, a Lamport number, a payload and a revision give.
 pub fn event(kinds: &[u8], values: &[usize]) -> Event {
     let lamport = wide(entry(values, 3));
-    Event::new(id(kinds, values), lamport, wide(entry(values, 4)))
+    let op = wide(entry(values, 4));
+    Event::new(id(kinds, values), lamport, op, narrow(entry(values, 5)))
 }
 
 fn low_byte(n: usize) -> u8 {

@@ -2,6 +2,7 @@
 // of the row with its word, where its tokens are what the letters say:
 //
 //     n   a number
+//     r   a revision: a number below 2^32
 //     i   an id: two numbers, and a number below 2^32 or a dash
 //     v   a vector: 1 to 16 numbers
 //     m   a mask: any count of numbers below 256
@@ -16,7 +17,7 @@ use text::bytes::byte_at;
 use text::bytes::find_byte;
 use text::bytes::same;
 
-// The highest number that tells the pieces of a note apart.
+// The highest number that tells the pieces of a note apart, and the highest revision.
 pub const TOP_TAG: usize = 4_294_967_295;
 
 // What is found where no row fits. No table has so many.
@@ -37,12 +38,18 @@ fn behind_one(kinds: &[u8], at: usize, kind: u8) -> usize {
     NOWHERE
 }
 
+// The place behind a number below 2^32.
+fn behind_small(kinds: &[u8], values: &[usize], at: usize) -> usize {
+    if entry(values, at) <= TOP_TAG {
+        return behind_one(kinds, at, NUMBER);
+    }
+    NOWHERE
+}
+
 // The place behind an id's third token.
 fn behind_tag(kinds: &[u8], values: &[usize], at: usize) -> usize {
-    if entry(values, at) <= TOP_TAG {
-        if byte_at(kinds, at) == NUMBER {
-            return next(at);
-        }
+    if byte_at(kinds, at) == NUMBER {
+        return behind_small(kinds, values, at);
     }
     behind_one(kinds, at, DASH)
 }
@@ -84,6 +91,7 @@ fn behind_vector(kinds: &[u8], values: &[usize], at: usize) -> usize {
 fn behind(letter: u8, kinds: &[u8], values: &[usize], at: usize) -> usize {
     match letter {
         b'n' => behind_one(kinds, at, NUMBER),
+        b'r' => behind_small(kinds, values, at),
         b'i' => behind_id(kinds, values, at),
         b'v' => behind_vector(kinds, values, at),
         b'm' => behind_numbers(kinds, values, at, 255),

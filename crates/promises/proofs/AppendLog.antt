@@ -16,7 +16,7 @@ use Rattle.graph.specs.Whole.{EventGraph}
 use Rattle.graph.specs.Refusals.{isBehind, refusalOf}
 use Rattle.graph.specs.Graphs.{pushed}
 use Rattle.graph.specs.Invariant.{GraphOk, replicaAt, seqAt, Siblings}
-use Rattle.graph.proofs.DescentLaws.{accepted-facts}
+use Rattle.graph.proofs.DescentLaws.{Accepted, accepted-facts}
 use Rattle.graph.proofs.InvariantLaws.{push-ok}
 use Rattle.graph.proofs.AppendNotes.{OneMore, push-one-more, more-notes, older}
 use Rattle.graph.proofs.AcceptedLaws.{timely-cases, AfterSibling, other-id}
@@ -26,20 +26,23 @@ use Rattle.clocks.specs.declared.id.EventId.{EventId}
 use Rattle.promises.proofs.LogOk.{LogOk}
 
 -- an event that roots do not refuse has a version that is at least roots in every entry
-pub accepted-after : (g : EventGraph) (W : Versions) → LogOk g W → (id : EventId) (v : List ℕ) → refusalOf g id v ≡ 0 → (r : ℕ) → entry (g .roots .entries) r ≤ entry v r
+pub accepted-after : (g : EventGraph) (W : Versions) → LogOk g W → (id : EventId) (revision : ℕ) (v : List ℕ) → refusalOf g id revision v ≡ 0 → (r : ℕ) → entry (g .roots .entries) r ≤ entry v r
 unfolding isBehind
-accepted-after g W ok id v h r = ⊎-elim
-    (λ (t : g .rooted ≡ true). at-most-elim (g .roots .entries) v (imp-of (g .rooted) _ (accepted-facts g id v h .after) t) r)
+accepted-after g W ok id revision v h r = ⊎-elim
+    (λ (t : g .rooted ≡ true). at-most-elim (g .roots .entries) v (imp-of (g .rooted) _ (accepted-facts g id revision v h .after) t) r)
     (λ (z : g .rooted ≡ false). rw (ok .notes .unrooted z r) (omega arith)) (true-or-false (g .rooted))
 
 -- nothing descends from its own position or a later one
 not-later : (h : EventGraph) → GraphOk h → (i j : ℕ) → i < h .held → i ≤ j → descends (h .pasts) i j ≡ false
 not-later h ok i j l m = is-false (descends (h .pasts) i j) (λ t. omega (arith, ok .earlier i j l t))
 
-module _ (g h : EventGraph) (W : Versions) (id : EventId) (v : List ℕ) (ok : LogOk g W) (accepted : refusalOf g id v ≡ 0) (p : OneMore g h id v) where
+module _ (g h : EventGraph) (W : Versions) (e : Event) (v : List ℕ) (ok : LogOk g W) (accepted : refusalOf g (e .id) (e .revision) v ≡ 0) (p : OneMore g h e v) where
+  abbrev id : EventId
+  id = e .id
+
   -- the versions of the held events stay, since none has this id
   pub old-version : (k : ℕ) → k < g .held → versionAt h (withVersion W id v) k ≡ versionAt g W k
-  old-version k l = rw (p .oldReplica k l, p .oldSeq k l, p .oldCode k l, other-id g id v (ok .graph) accepted k l)
+  old-version k l = rw (p .oldReplica k l, p .oldSeq k l, p .oldCode k l, other-id g id (e .revision) v (ok .graph) accepted k l)
 
   pub new-version : versionAt h (withVersion W id v) (g .held) ≡ v
   new-version = rw (p .newReplica, p .newSeq, p .newCode, eq-eqb (id .idx .0) (id .idx .0) refl, eq-eqb (id .seq) (id .seq) refl, eq-eqb (codeOf (id .disambiguator)) (codeOf (id .disambiguator)) refl)
@@ -48,9 +51,12 @@ module _ (g h : EventGraph) (W : Versions) (id : EventId) (v : List ℕ) (ok : L
   covered-sibling : (i : ℕ) → i < g .held → id .seq ≤ entry (versionAt g W i) (id .idx .0) → (replicaAt g i ≡ id .idx .0) × (seqAt g i ≡ id .seq)
   covered-sibling i l c = ⊎-elim
       (λ (q : entry (g .named .entries) (id .idx .0) < id .seq). absurd (omega (arith, ok .upto i (id .idx .0) l)))
-      (λ (q : (id .seq ≡ entry (g .named .entries) (id .idx .0)) × AfterSibling g id). behind (q .1)) (timely-cases g id (accepted-facts g id v accepted .timely))
+      (λ (q : (id .seq ≡ entry (g .named .entries) (id .idx .0)) × AfterSibling g id (e .revision)). behind (q .1)) (timely-cases g id (e .revision) (facts .timely) (facts .alike))
     where
-      behind : AfterSibling g id → (replicaAt g i ≡ id .idx .0) × (seqAt g i ≡ id .seq)
+      facts : Accepted g id (e .revision) v
+      facts = accepted-facts g id (e .revision) v accepted
+
+      behind : AfterSibling g id (e .revision) → (replicaAt g i ≡ id .idx .0) × (seqAt g i ≡ id .seq)
       behind a = elim (ℕ-discrete i (g .held - 1)) [
         | yes z ↦ rw z (a .replica, a .seq)
         | no z ↦
@@ -61,7 +67,7 @@ module _ (g h : EventGraph) (W : Versions) (id : EventId) (v : List ℕ) (ok : L
   pub more-log : GraphOk h → LogOk h (withVersion W id v)
   more-log fine = record {
     graph = fine;
-    notes = more-notes g id v (ok .notes) accepted h p;
+    notes = more-notes g e v (ok .notes) accepted h p;
     long = λ k l. elim (ℕ-discrete k (g .held)) [
       | yes z ↦ rw (z, new-version, p .size) (well-formed-length (g .named .len) v (vector .0))
       | no z ↦ let o = older p k l z in rw (old-version k o, p .size) (ok .long k o)
@@ -75,7 +81,7 @@ module _ (g h : EventGraph) (W : Versions) (id : EventId) (v : List ℕ) (ok : L
       | no z ↦ let o = older p k l z in rw (old-version k o) (omega (arith, ok .upto k r o, p .rises r))
     ];
     after = λ k r l. elim (ℕ-discrete k (g .held)) [
-      | yes z ↦ rw (z, new-version, p .roots) (accepted-after g W ok id v accepted r)
+      | yes z ↦ rw (z, new-version, p .roots) (accepted-after g W ok id (e .revision) v accepted r)
       | no z ↦ let o = older p k l z in rw (old-version k o, p .roots) (ok .after k r o)
     ];
     descent = λ i j l m. ⊎-elim
@@ -96,7 +102,7 @@ module _ (g h : EventGraph) (W : Versions) (id : EventId) (v : List ℕ) (ok : L
   }
     where
       vector : (wellFormed (g .named .len) v ≡ true) × (entry v (id .idx .0) ≡ id .seq)
-      vector = well-formed-for (g .named .len) v id (accepted-facts g id v accepted .vector)
+      vector = well-formed-for (g .named .len) v id (accepted-facts g id (e .revision) v accepted .vector)
 
       newest : (i k : ℕ) → k ≡ g .held → i < k → seqAt h k ≤ entry (versionAt h (withVersion W id v) i) (replicaAt h k) → Siblings h i k
       newest i k z m c =
@@ -111,8 +117,8 @@ module _ (g h : EventGraph) (W : Versions) (id : EventId) (v : List ℕ) (ok : L
           rw (p .oldReplica i o, p .oldSeq i o, p .oldReplica k b, p .oldSeq k b) s
 
 -- the graph that an accepted append leaves
-pub push-log : (g : EventGraph) (W : Versions) (e : Event) (v : List ℕ) → LogOk g W → refusalOf g (e .id) v ≡ 0 → LogOk (pushed g e v) (withVersion W (e .id) v)
+pub push-log : (g : EventGraph) (W : Versions) (e : Event) (v : List ℕ) → LogOk g W → refusalOf g (e .id) (e .revision) v ≡ 0 → LogOk (pushed g e v) (withVersion W (e .id) v)
 push-log g W e v ok h =
-    let a = accepted-facts g (e .id) v h in
-    more-log g (pushed g e v) W (e .id) v ok h
+    let a = accepted-facts g (e .id) (e .revision) v h in
+    more-log g (pushed g e v) W e v ok h
     (push-one-more g e v (ok .graph) (ok .notes) (a .fits) (well-formed-for (g .named .len) v (e .id) (a .vector) .0)) (push-ok g v (ok .graph) (a .fits) (a .closed) e)

@@ -26,11 +26,15 @@ same-roots start g h (at f) a b = (a .0 ∙ sym (b .0), a .1 ∙ sym (b .1))
 
 -- two slots with one note
 same-note : {g h : EventGraph} {W U : Versions} {j k : ℕ} {n : Note} → NoteAt g W j n → NoteAt h U k n → SameNote g h j k
-same-note a b = record {
-  id = record { replica = a .replica ∙ sym (b .replica); seq = a .seq ∙ sym (b .seq); code = a .code ∙ sym (b .code) };
-  lamport = a .lamport ∙ sym (b .lamport);
-  op = a .op ∙ sym (b .op);
-}
+same-note x y =
+    let a = x .event in
+    let b = y .event in
+    record {
+      id = record { replica = a .replica ∙ sym (b .replica); seq = a .seq ∙ sym (b .seq); code = a .code ∙ sym (b .code) };
+      lamport = a .lamport ∙ sym (b .lamport);
+      op = a .op ∙ sym (b .op);
+      revision = a .revision ∙ sym (b .revision);
+    }
 
 -- a log is reached; it holds accepted notes that the last flushed frontier does not contain, and all of those, each with its version
 pub record Kept (start g : EventGraph) (ns : List Note) (last : Last) : Type 0 where

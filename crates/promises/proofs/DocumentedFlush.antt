@@ -89,6 +89,7 @@ module _ (g : EventGraph) (W : Versions) (ok : LogOk g W) (v : List ℕ) (accept
       id = record { replica = at (g .replicas) k l; seq = at (g .seqs) k l; code = at (g .codes) k l };
       lamport = at (g .lamports) k l;
       op = at (g .ops) k l;
+      revision = at (g .revisions) k l;
     }
 
     number : m + rootedAt (kept g (stays g v)) v .held ≡ g .held

@@ -110,7 +110,7 @@ module _ (g : EventGraph) (W : Versions) (ok : LogOk g W) where
 
   pub next-after : (e : Event) (v : List ℕ) → appended g e v .refusal ≡ 0 → (r : ℕ) → rootAt g r ≤ entry v r
   unfolding appended
-  next-after e v h r = omega (arith, root-roots r, accepted-after g W ok (e .id) v h r)
+  next-after e v h r = omega (arith, root-roots r, accepted-after g W ok (e .id) (e .revision) v h r)
 
 -- ---- the greatest cut inside a bound
 

@@ -7,8 +7,6 @@ use Prim.Native.Nat.{ℕ, _<_}
 use native.Mathlib.Decide.{ℕ-discrete}
 use native.Mathlib.Omega.{arith}
 use lib.Dec.{eqb}
-use lib.ListN.{length-set}
-use lib.Seq.{getD-set-same, getD-set-other}
 use borrow.Author.Tests.{eq-eqb, eqb-true}
 use Rattle.laws.specs.Counting.{pick}
 use Rattle.laws.proofs.Orders.{true-or-false}
@@ -29,6 +27,7 @@ use Rattle.clocks.specs.declared.id.EventId.{EventId}
 use Rattle.promises.proofs.WhatIsHeld.{NoteAt, Contained, RootsAre, Holding, note-moves}
 use Rattle.promises.proofs.LogOk.{LogOk}
 use Rattle.promises.proofs.AppendLog.{old-version, new-version}
+use Rattle.promises.proofs.DocumentedAppend.{new-event, old-note-stays}
 
 roots-stay : (start g h : EventGraph) (last : Last) → h .rooted ≡ g .rooted → h .roots ≡ g .roots → RootsAre start g last → RootsAre start h last
 roots-stay start g h never a b r = (a ∙ r .0, b ∙ r .1)
@@ -39,7 +38,7 @@ among-cases here = inl refl
 among-cases (there a) = inr a
 
 module _ (start g : EventGraph) (W : Versions) (ns : List Note) (last : Last) (ok : LogOk g W) (held : Holding start g W ns last) where
-  module _ (e : Event) (v : List ℕ) (taken : refusalOf g (e .id) v ≡ 0) where
+  module _ (e : Event) (v : List ℕ) (taken : refusalOf g (e .id) (e .revision) v ≡ 0) where
     abbrev more : EventGraph
     more = pushed g e v
 
@@ -49,9 +48,9 @@ module _ (start g : EventGraph) (W : Versions) (ns : List Note) (last : Last) (o
     abbrev note : Note
     note = record { event = e; version = v }
 
-    one-more : OneMore g more (e .id) v
+    one-more : OneMore g more e v
     one-more =
-        let a = accepted-facts g (e .id) v taken in
+        let a = accepted-facts g (e .id) (e .revision) v taken in
         push-one-more g e v (ok .graph) (ok .notes) (a .fits) (well-formed-for (g .named .len) v (e .id) (a .vector) .0)
 
     -- the new one
@@ -59,16 +58,7 @@ module _ (start g : EventGraph) (W : Versions) (ns : List Note) (last : Last) (o
     unfolding pushed
     new-note =
         let p = one-more in
-        let f = accepted-facts g (e .id) v taken .fits in
-        record {
-          small = omega arith;
-          replica = p .newReplica;
-          seq = p .newSeq;
-          code = p .newCode;
-          lamport = getD-set-same (g .lamports) (g .held) (e .lamport) 0 (omega (arith, held .tables .0));
-          op = getD-set-same (g .ops) (g .held) (e .op) 0 (omega (arith, held .tables .1));
-          version = new-version g more W (e .id) v ok taken p;
-        }
+        record { small = omega arith; event = new-event g more e v p; version = new-version g more W e v ok taken p }
 
     -- an old one
     old-note : (k : ℕ) (n : Note) → NoteAt g W k n → NoteAt more versions k n
@@ -76,15 +66,11 @@ module _ (start g : EventGraph) (W : Versions) (ns : List Note) (last : Last) (o
     old-note k n a =
         let p = one-more in
         let l = a .small in
-        note-moves k k n (omega arith) (p .oldReplica k l) (p .oldSeq k l) (p .oldCode k l)
-        (getD-set-other (g .lamports) (g .held) k (e .lamport) 0 (λ z. omega arith))
-        (getD-set-other (g .ops) (g .held) k (e .op) 0 (λ z. omega arith))
-        (old-version g more W (e .id) v ok taken p k l) a
+        note-moves k k n (omega arith) (old-note-stays g more e v p k l) (old-version g more W e v ok taken p k l) a
 
     push-holding : Holding start more versions (note ∷ ns) last
     unfolding pushed
     push-holding = record {
-      tables = (length-set (g .lamports) (g .held) (e .lamport) ∙ held .tables .0, length-set (g .ops) (g .held) (e .op) ∙ held .tables .1);
       size = held .size;
       roots = roots-stay start g more last refl refl (held .roots);
       each = λ k l. elim (ℕ-discrete k (g .held)) [
@@ -103,25 +89,25 @@ module _ (start g : EventGraph) (W : Versions) (ns : List Note) (last : Last) (o
       (pick (eqb (appended g e v .refusal) 0) (record { event = e; version = v } ∷ ns) ns) last
   unfolding appended
   append-holding e v = ⊎-elim
-      (λ (t : eqb (refusalOf g (e .id) v) 0 ≡ true). rw t (push-holding e v (eqb-true (refusalOf g (e .id) v) 0 t)))
-      (λ (z : eqb (refusalOf g (e .id) v) 0 ≡ false). rw z held) (true-or-false (eqb (refusalOf g (e .id) v) 0))
+      (λ (t : eqb (refusalOf g (e .id) (e .revision) v) 0 ≡ true). rw t (push-holding e v (eqb-true (refusalOf g (e .id) (e .revision) v) 0 t)))
+      (λ (z : eqb (refusalOf g (e .id) (e .revision) v) 0 ≡ false). rw z held) (true-or-false (eqb (refusalOf g (e .id) (e .revision) v) 0))
 
   -- an accepted note is accepted once: where it is held it is known, and where it is gone its sequence is not above roots
-  pub accepted-once : (e : Event) (v : List ℕ) (n : Note) → Among n ns → n .event .id ≡ e .id → refusalOf g (e .id) v ≡ 0 → ⊥
+  pub accepted-once : (e : Event) (v : List ℕ) (n : Note) → Among n ns → n .event .id ≡ e .id → refusalOf g (e .id) (e .revision) v ≡ 0 → ⊥
   accepted-once e v n a same taken = ⊎-elim (gone last (held .roots))
       (λ (w : (k : ℕ) × NoteAt g W k n).
       let s = w .1 in
-      let z = other-id g (e .id) v (ok .graph) taken (w .0) (s .small) in
+      let z = other-id g (e .id) (e .revision) v (ok .graph) taken (w .0) (s .small) in
       false≢true (sym z ∙ rw (
-        eq-eqb (replicaAt g (w .0)) (e .id .idx .0) (s .replica ∙ ap (λ (i : EventId). i .idx .0) same),
-        eq-eqb (seqAt g (w .0)) (e .id .seq) (s .seq ∙ ap (λ (i : EventId). i .seq) same),
-        eq-eqb (codeAt g (w .0)) (codeOf (e .id .disambiguator)) (s .code ∙ ap (λ (i : EventId). codeOf (i .disambiguator)) same),
+        eq-eqb (replicaAt g (w .0)) (e .id .idx .0) (s .event .replica ∙ ap (λ (i : EventId). i .idx .0) same),
+        eq-eqb (seqAt g (w .0)) (e .id .seq) (s .event .seq ∙ ap (λ (i : EventId). i .seq) same),
+        eq-eqb (codeAt g (w .0)) (codeOf (e .id .disambiguator)) (s .event .code ∙ ap (λ (i : EventId). codeOf (i .disambiguator)) same),
       ))) (held .all n a)
     where
       above : entry (g .roots .entries) (e .id .idx .0) < e .id .seq
       above =
           let p = one-more e v taken in
-          let m = more-notes g (e .id) v (ok .notes) taken (pushed g e v) p .aboveRoots (g .held) (omega (arith, p .held)) in
+          let m = more-notes g e v (ok .notes) taken (pushed g e v) p .aboveRoots (g .held) (omega (arith, p .held)) in
           rw (p .roots, p .newReplica, p .newSeq) at m
 
       gone : (last : Last) → RootsAre start g last → Contained last n → ⊥

@@ -23,7 +23,7 @@ use Rattle.graph.specs.Invariant.{GraphOk, NotesOk}
 use Rattle.graph.proofs.CoverLaws.{covered-elim}
 use Rattle.graph.proofs.FrontierLaws.{base-entry, prefix-base}
 use Rattle.graph.proofs.CriticalLaws.{AtCut, critical-cut, same-entries}
-use Rattle.graph.proofs.RemainLaws.{closed-size, closed-at, was, was-held, stands}
+use Rattle.graph.proofs.RemainLaws.{closed-at, was, was-held, stands}
 use Rattle.tables.proofs.ClosingLaws.{rank-count}
 use Rattle.graph.proofs.RemovalCases.{stays, stays-held, flush-cases}
 use Rattle.promises.specs.Reached.{Versions}
@@ -49,7 +49,12 @@ module _ (start g : EventGraph) (W : Versions) (ns : List Note) (last : Last) (o
         let r = stands g (stays g f) ok (stays-held g f) (g .replicas) k l in
         let s = stands g (stays g f) ok (stays-held g f) (g .seqs) k l in
         let c = stands g (stays g f) ok (stays-held g f) (g .codes) k l in
-        note-moves k (was g (stays g f) ok (stays-held g f) k l) n l r s c (stands g (stays g f) ok (stays-held g f) (g .lamports) k l) (stands g (stays g f) ok (stays-held g f) (g .ops) k l) (rw (r, s, c)) a
+        note-moves k (was g (stays g f) ok (stays-held g f) k l) n l (record {
+          id = record { replica = r; seq = s; code = c };
+          lamport = stands g (stays g f) ok (stays-held g f) (g .lamports) k l;
+          op = stands g (stays g f) ok (stays-held g f) (g .ops) k l;
+          revision = stands g (stays g f) ok (stays-held g f) (g .revisions) k l;
+        }) (rw (r, s, c)) a
 
     -- and what is not contained remains
     kept-note : (k : ℕ) (n : Note) → stays g f k ≡ true → NoteAt g W k n → NoteAt rest W (rank (setOf (stays g f)) k) n
@@ -59,8 +64,13 @@ module _ (start g : EventGraph) (W : Versions) (ns : List Note) (last : Last) (o
         let r = closed-at (stays g f) (g .replicas) k l e in
         let s = closed-at (stays g f) (g .seqs) k l e in
         let c = closed-at (stays g f) (g .codes) k l e in
-        note-moves (rank (setOf (stays g f)) k) k n (omega (arith, rank-count (stays g f) k (omega arith), count-rises (stays g f) k 256 l e)) r s c
-        (closed-at (stays g f) (g .lamports) k l e) (closed-at (stays g f) (g .ops) k l e) (rw (r, s, c)) a
+        note-moves (rank (setOf (stays g f)) k) k n (omega (arith, rank-count (stays g f) k (omega arith), count-rises (stays g f) k 256 l e))
+        (record {
+          id = record { replica = r; seq = s; code = c };
+          lamport = closed-at (stays g f) (g .lamports) k l e;
+          op = closed-at (stays g f) (g .ops) k l e;
+          revision = closed-at (stays g f) (g .revisions) k l e;
+        }) (rw (r, s, c)) a
 
     -- what was contained still is: roots only rise
     still-gone : (last : Last) (n : Note) → RootsAre start g last → Contained last n → Contained (at f) n
@@ -69,13 +79,12 @@ module _ (start g : EventGraph) (W : Versions) (ns : List Note) (last : Last) (o
 
     gone-or-kept : (k : ℕ) (n : Note) → NoteAt g W k n → Contained (at f) n ⊎ ((j : ℕ) × NoteAt rest W j n)
     gone-or-kept k n a = ⊎-elim
-        (λ (t : covered g f k ≡ true). inl (omega (arith, covered-elim g f k t .1, a .seq, ap (λ (i : ℕ). entry f i) (a .replica))))
+        (λ (t : covered g f k ≡ true). inl (omega (arith, covered-elim g f k t .1, a .event .seq, ap (λ (i : ℕ). entry f i) (a .event .replica))))
         (λ (z : covered g f k ≡ false). inr (rank (setOf (stays g f)) k, kept-note k n (rw (lt-ltb k (g .held) (a .small), z)) a)) (true-or-false (covered g f k))
 
     rest-holding : Holding start rest W ns (at f)
     unfolding kept
     rest-holding = record {
-      tables = (closed-size (stays g f) (g .lamports), closed-size (stays g f) (g .ops));
       size = held .size;
       roots = (refl, ap (λ (r : ℕ). fromEntries r f .frontier) (held .size), made (g .named .len) f (notes .namedOk .room) formed .2);
       each = λ k l. let w = held .each (was g (stays g f) ok (stays-held g f) k l) (was-held g (stays g f) ok (stays-held g f) k l) in (w .0, w .1, was-note k l (w .0) (w .2));

@@ -8,6 +8,7 @@ pub mod Documented
 pub mod DocumentedFrontiers
 pub mod DocumentedVersions
 pub mod DocumentedFlush
+pub mod DocumentedAppend
 pub mod ReachedDocumented
 pub mod Pigeonhole
 pub mod Matching

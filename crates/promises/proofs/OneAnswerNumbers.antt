@@ -5,6 +5,7 @@ use Rattle.numbers.proofs.smaller.Reads.{Post as smaller}
 use Rattle.numbers.proofs.entry.Reads.{Post as entry}
 use Rattle.numbers.proofs.wide.Reads.{Post as wide}
 use Rattle.numbers.proofs.size.Reads.{Post as size}
+use Rattle.numbers.proofs.narrow.Reads.{Post as narrow}
 use Rattle.numbers.proofs.digit.Reads.{Post as digit}
 use Rattle.numbers.proofs.joined.Reads.{Post as joined}
 use Rattle.promises.proofs.OneAnswer.{one-answer, Once}
@@ -26,6 +27,9 @@ numbers-wide-once κs a x y s t p q = one-answer p q
 
 pub numbers-size-once : Once size
 numbers-size-once κs a x y s t p q = one-answer p q
+
+pub numbers-narrow-once : Once narrow
+numbers-narrow-once κs a x y s t p q = one-answer p q
 
 pub numbers-digit-once : Once digit
 numbers-digit-once κs a x y s t p q = one-answer p q

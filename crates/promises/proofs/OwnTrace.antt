@@ -134,7 +134,7 @@ module _ {r : ℕ} {h : EventHistory} {notes versions boundaries : List ℕ} {g 
   long-v : length v ≡ replicas g
   long-v = well-formed-length (replicas g) v (well-formed-for (replicas g) v (event .id) (a .formed) .0)
 
-  kept-more : Kept r h notes versions boundaries (appended g (event .id)) (noted notes′ row (event .id .disambiguator) (event .lamport) (event .op)) (replaced versions′ (16 * row) v)
+  kept-more : Kept r h notes versions boundaries (appended g (event .id)) (noted notes′ row event) (replaced versions′ (16 * row) v)
   kept-more = record {
     ok = append-ok g versions′ boundaries (event .id) v (k .ok) a;
     long = length-replaced versions′ (16 * row) v
@@ -147,7 +147,7 @@ module _ {r : ℕ} {h : EventHistory} {notes versions boundaries : List ℕ} {g 
         rows = λ s. k .same .trace .rows s ∙ trace-other .rows s;
         boundary = k .same .trace .boundary;
       };
-      texts = λ s e. k .same .texts s e ∙ sym (note-other notes′ r s row (event .id .disambiguator) (event .lamport) (event .op) (rows-apart r s (event .id .idx .0) (event .id .seq) z));
+      texts = λ s e. k .same .texts s e ∙ sym (note-other notes′ r s row event (rows-apart r s (event .id .idx .0) (event .id .seq) z));
     };
   }
 

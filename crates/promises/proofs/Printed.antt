@@ -49,9 +49,9 @@ code-small (Number d) h = omega arith
 none-coded : (g : EventGraph) → g .held ≡ 0 → Coded g
 none-coded g h k l = absurd (omega (arith, h))
 
-push-coded : (g : EventGraph) (e : Event) (v : List ℕ) → GraphOk g → NotesOk g → SmallTag (e .id .disambiguator) → refusalOf g (e .id) v ≡ 0 → Coded g → Coded (pushed g e v)
+push-coded : (g : EventGraph) (e : Event) (v : List ℕ) → GraphOk g → NotesOk g → SmallTag (e .id .disambiguator) → refusalOf g (e .id) (e .revision) v ≡ 0 → Coded g → Coded (pushed g e v)
 push-coded g e v ok notes small taken c k l =
-    let a = accepted-facts g (e .id) v taken in
+    let a = accepted-facts g (e .id) (e .revision) v taken in
     let p = push-one-more g e v ok notes (a .fits) (well-formed-for (g .named .len) v (e .id) (a .vector) .0) in
     elim (ℕ-discrete k (g .held)) [
       | yes z ↦ rw (z, p .newCode) (code-small (e .id .disambiguator) small)
@@ -61,8 +61,8 @@ push-coded g e v ok notes small taken c k l =
 append-coded : (g : EventGraph) (e : Event) (v : List ℕ) → GraphOk g → NotesOk g → SmallTag (e .id .disambiguator) → Coded g → Coded (appended g e v .graph)
 unfolding appended
 append-coded g e v ok notes small c = ⊎-elim
-    (λ (t : eqb (refusalOf g (e .id) v) 0 ≡ true). rw t (push-coded g e v ok notes small (eqb-true (refusalOf g (e .id) v) 0 t) c))
-    (λ (z : eqb (refusalOf g (e .id) v) 0 ≡ false). rw z c) (true-or-false (eqb (refusalOf g (e .id) v) 0))
+    (λ (t : eqb (refusalOf g (e .id) (e .revision) v) 0 ≡ true). rw t (push-coded g e v ok notes small (eqb-true (refusalOf g (e .id) (e .revision) v) 0 t) c))
+    (λ (z : eqb (refusalOf g (e .id) (e .revision) v) 0 ≡ false). rw z c) (true-or-false (eqb (refusalOf g (e .id) (e .revision) v) 0))
 
 kept-coded : (g : EventGraph) (f : ℕ → Bool) → GraphOk g → ((k : ℕ) → k < 256 → f k ≡ true → k < g .held) → Coded g → Coded (kept g f)
 unfolding kept

@@ -51,8 +51,8 @@ append-log : (g : EventGraph) (W : Versions) (e : Event) (v : List ℕ) → LogO
     → LogOk (graphs.appended g e v .graph) (pick (eqb (graphs.appended g e v .refusal) 0) (withVersion W (e .id) v) W)
 unfolding graphs.appended
 append-log g W e v ok = ⊎-elim
-    (λ (t : eqb (refusalOf g (e .id) v) 0 ≡ true). rw t (push-log g W e v ok (eqb-true (refusalOf g (e .id) v) 0 t)))
-    (λ (z : eqb (refusalOf g (e .id) v) 0 ≡ false). rw z ok) (true-or-false (eqb (refusalOf g (e .id) v) 0))
+    (λ (t : eqb (refusalOf g (e .id) (e .revision) v) 0 ≡ true). rw t (push-log g W e v ok (eqb-true (refusalOf g (e .id) (e .revision) v) 0 t)))
+    (λ (z : eqb (refusalOf g (e .id) (e .revision) v) 0 ≡ false). rw z ok) (true-or-false (eqb (refusalOf g (e .id) (e .revision) v) 0))
 
 pub reached-ok : {g : EventGraph} {W : Versions} {accepted gone : ℕ} → Reached g W accepted gone → LogOk g W
 reached-ok (created r h) = empty-log (graphs.created r .graph) none (created-held r) (created-ok r) (created-notes r h)

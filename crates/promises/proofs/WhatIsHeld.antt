@@ -7,25 +7,21 @@ use mathlib.Core.Path.{_≡_, refl, ap, _∙_}
 use Prim.Native.Nat.{ℕ, _<_, _≤_}
 use native.Mathlib.Omega.{arith}
 use lib.Dec.{eqb}
-use lib.ListN.{length, getD, length-replicate}
 use Rattle.laws.proofs.Orders.{true-or-false}
 use Rattle.clocks.specs.Vectors.{entry}
 use Rattle.clocks.specs.Frontiers.{fromEntries}
-use Rattle.clocks.specs.Ids.{codeOf}
 use Rattle.graph.specs.Whole.{EventGraph}
 use Rattle.graph.specs.Graphs.{created, checkpointed}
-use Rattle.graph.specs.Invariant.{NotesOk, replicaAt, seqAt, codeAt}
+use Rattle.graph.specs.Invariant.{NotesOk, replicaAt}
 use Rattle.promises.specs.Reached.{Versions, none, versionAt}
-use Rattle.promises.specs.Demand.{Note, Last, never, at, Start, fresh, checkpoint, Among}
+use Rattle.promises.specs.Demand.{Note, Last, never, at, Start, fresh, checkpoint, Among, SameNote}
+use Rattle.promises.specs.Documented.{HoldsEvent}
+use Rattle.clocks.specs.declared.event.Event.{Event}
 
 -- slot k holds this note, which was last accepted with its version
 pub record NoteAt (g : EventGraph) (W : Versions) (k : ℕ) (n : Note) : Type 0 where
   pub small : k < g .held
-  pub replica : replicaAt g k ≡ n .event .id .idx .0
-  pub seq : seqAt g k ≡ n .event .id .seq
-  pub code : codeAt g k ≡ codeOf (n .event .id .disambiguator)
-  pub lamport : getD (g .lamports) k 0 ≡ n .event .lamport
-  pub op : getD (g .ops) k 0 ≡ n .event .op
+  pub event : HoldsEvent g k (n .event)
   pub version : versionAt g W k ≡ n .version
 
 -- the last flushed frontier contains the note's id
@@ -40,7 +36,6 @@ RootsAre start g (at f) =
     (g .rooted ≡ true) × (g .roots ≡ fromEntries (start .named .len) f .frontier) × ((r : ℕ) → entry (g .roots .entries) r ≡ entry f r)
 
 pub record Holding (start g : EventGraph) (W : Versions) (ns : List Note) (last : Last) : Type 0 where
-  pub tables : (length (g .lamports) ≡ 256) × (length (g .ops) ≡ 256)
   pub size : g .named .len ≡ start .named .len
   pub roots : RootsAre start g last
   -- every held slot is an accepted note, and every accepted note is held or contained
@@ -51,44 +46,43 @@ pub record Holding (start g : EventGraph) (W : Versions) (ns : List Note) (last 
 pub not-contained : (start g : EventGraph) (W : Versions) (last : Last) (k : ℕ) (n : Note) → NotesOk g → RootsAre start g last → NoteAt g W k n → Contained last n → ⊥
 not-contained start g W never k n notes r s c = c
 not-contained start g W (at f) k n notes r s c =
-    omega (arith, notes .aboveRoots k (s .small), r .2 (replicaAt g k), s .seq, ap (λ (i : ℕ). entry f i) (s .replica), c)
+    omega (arith, notes .aboveRoots k (s .small), r .2 (replicaAt g k), s .event .seq, ap (λ (i : ℕ). entry f i) (s .event .replica), c)
 
--- a note stands in another slot of another graph as it stood
-pub note-moves : {g h : EventGraph} {W U : Versions} (j k : ℕ) (n : Note) → j < h .held → replicaAt h j ≡ replicaAt g k → seqAt h j ≡ seqAt g k → codeAt h j ≡ codeAt g k
-    → getD (h .lamports) j 0 ≡ getD (g .lamports) k 0 → getD (h .ops) j 0 ≡ getD (g .ops) k 0 → versionAt h U j ≡ versionAt g W k → NoteAt g W k n → NoteAt h U j n
-note-moves j k n l r s c m o v a = record {
-  small = l;
-  replica = r ∙ a .replica;
-  seq = s ∙ a .seq;
-  code = c ∙ a .code;
-  lamport = m ∙ a .lamport;
-  op = o ∙ a .op;
-  version = v ∙ a .version;
+-- an event stands in another slot of another graph as it stood
+event-moves : {g h : EventGraph} {j k : ℕ} {e : Event} → SameNote h g j k → HoldsEvent g k e → HoldsEvent h j e
+event-moves s a = record {
+  replica = s .id .replica ∙ a .replica;
+  seq = s .id .seq ∙ a .seq;
+  code = s .id .code ∙ a .code;
+  lamport = s .lamport ∙ a .lamport;
+  op = s .op ∙ a .op;
+  revision = s .revision ∙ a .revision;
 }
+
+-- and so does a note
+pub note-moves : {g h : EventGraph} {W U : Versions} (j k : ℕ) (n : Note) → j < h .held → SameNote h g j k → versionAt h U j ≡ versionAt g W k → NoteAt g W k n → NoteAt h U j n
+note-moves j k n l s v a = record { small = l; event = event-moves s (a .event); version = v ∙ a .version }
 
 -- ---- a start holds nothing
 
 none-among : {A : Type 0} {n : Note} → Among n [] → A
 none-among = elim [ ]
 
-empty-holding : (start : EventGraph) → start .held ≡ 0 → (length (start .lamports) ≡ 256) × (length (start .ops) ≡ 256) → Holding start start none [] never
-empty-holding start h t = record {
-  tables = t;
+empty-holding : (start : EventGraph) → start .held ≡ 0 → Holding start start none [] never
+empty-holding start h = record {
   size = refl;
   roots = (refl, refl);
   each = λ k l. absurd (omega (arith, h));
   all = λ n a. none-among a;
 }
 
-checkpoint-empty : (r : ℕ) (v : List ℕ)
-    → (checkpointed r v .graph .held ≡ 0) × (length (checkpointed r v .graph .lamports) ≡ 256) × (length (checkpointed r v .graph .ops) ≡ 256)
+checkpoint-empty : (r : ℕ) (v : List ℕ) → checkpointed r v .graph .held ≡ 0
 unfolding checkpointed
 checkpoint-empty r v =
-    let z = length-replicate {A = ℕ} 256 0 in
-    ⊎-elim (λ (t : eqb (fromEntries r v .refusal) 0 ≡ true). rw t (refl, z, z)) (λ (f : eqb (fromEntries r v .refusal) 0 ≡ false). rw f (refl, z, z))
+    ⊎-elim (λ (t : eqb (fromEntries r v .refusal) 0 ≡ true). rw t refl) (λ (f : eqb (fromEntries r v .refusal) 0 ≡ false). rw f refl)
     (true-or-false (eqb (fromEntries r v .refusal) 0))
 
 pub start-holding : {start : EventGraph} → Start start → Holding start start none [] never
 unfolding created
-start-holding (fresh r e) = empty-holding (created r .graph) refl (length-replicate {A = ℕ} 256 0, length-replicate {A = ℕ} 256 0)
-start-holding (checkpoint r v e) = let z = checkpoint-empty r v in empty-holding (checkpointed r v .graph) (z .0) (z .1, z .2)
+start-holding (fresh r e) = empty-holding (created r .graph) refl
+start-holding (checkpoint r v e) = empty-holding (checkpointed r v .graph) (checkpoint-empty r v)

@@ -6,6 +6,8 @@ use mathlib.Core.Logic.{_⊎_, _↔_}
 use mathlib.Core.Path.{_≡_}
 use Prim.Native.Nat.{ℕ, suc, _+_, _<_, _≤_}
 use Rattle.laws.specs.Counting.{pick}
+use lib.ListN.{getD}
+use Rattle.clocks.specs.Ids.{codeOf}
 use Rattle.clocks.specs.Vectors.{entry, wellFormed}
 use Rattle.positions.specs.Members.{has}
 use Rattle.tables.specs.Slots.{descends}
@@ -14,7 +16,7 @@ use Rattle.graph.specs.Graphs.{placeOf, parents, heads, appended}
 use Rattle.graph.specs.Walks.{walkedParents, walkedHeads}
 use Rattle.graph.specs.Cuts.{isCritical, greatest}
 use Rattle.graph.specs.Removals.{flushed}
-use Rattle.graph.specs.Invariant.{replicaAt, seqAt}
+use Rattle.graph.specs.Invariant.{replicaAt, seqAt, codeAt, revisionAt, Siblings}
 use Rattle.promises.specs.Reached.{Versions, versionAt}
 use Rattle.promises.specs.Demand.{SameNote}
 use Rattle.clocks.specs.declared.event.Event.{Event}
@@ -102,6 +104,21 @@ pub record FlushedPrefix (g : EventGraph) (W : Versions) (v : List ℕ) : Type 0
   pub number : length + flushed g v .graph .held ≡ g .held
   pub stays : (k : ℕ) → k < flushed g v .graph .held → SameNote (flushed g v .graph) g k (length + k)
 
+-- slot k holds this event, all but its version
+pub record HoldsEvent (g : EventGraph) (k : ℕ) (e : Event) : Type 0 where
+  pub replica : replicaAt g k ≡ e .id .idx .0
+  pub seq : seqAt g k ≡ e .id .seq
+  pub code : codeAt g k ≡ codeOf (e .id .disambiguator)
+  pub lamport : getD (g .lamports) k 0 ≡ e .lamport
+  pub op : getD (g .ops) k 0 ≡ e .op
+  pub revision : revisionAt g k ≡ e .revision
+
+-- what is accepted stands behind the others as it was handed in, and they stay
+pub record AppendedLast (g : EventGraph) (e : Event) (v : List ℕ) : Type 0 where
+  pub number : appended g e v .graph .held ≡ g .held + 1
+  pub new : HoldsEvent (appended g e v .graph) (g .held) e
+  pub stays : (k : ℕ) → k < g .held → SameNote (appended g e v .graph) g k k
+
 -- all of it
 pub record Documented (g : EventGraph) (W : Versions) : Type 1 where
   pub past : (i j : ℕ) → i < g .held → (descends (g .pasts) i j ≡ true) ↔ Before g W j i
@@ -119,6 +136,10 @@ pub record Documented (g : EventGraph) (W : Versions) : Type 1 where
   pub answer : (bound : List ℕ) → wellFormed (g .named .len) bound ≡ true → greatest g bound .found ≡ true
       → (n : ℕ) × GreatestInside g W bound n × FrontierOf g n (greatest g bound .frontier .entries)
   pub flush : (v : List ℕ) → flushed g v .refusal ≡ 0 → FlushedPrefix g W v
+  -- what is held is what was accepted
+  pub append : (e : Event) (v : List ℕ) → appended g e v .refusal ≡ 0 → AppendedLast g e v
+  -- document 02: "Siblings are pieces of one note and carry one revision."
+  pub siblings : (j k : ℕ) → j < g .held → k < g .held → Siblings g j k → revisionAt g j ≡ revisionAt g k
   -- no note behind a flush: none is held, and none is accepted
   pub after : (k r : ℕ) → k < g .held → rootAt g r ≤ entry (versionAt g W k) r
   pub next : (e : Event) (v : List ℕ) → appended g e v .refusal ≡ 0 → (r : ℕ) → rootAt g r ≤ entry v r

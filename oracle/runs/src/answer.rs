@@ -28,7 +28,14 @@ pub fn id_text(id: &Id) -> String {
 }
 
 pub fn event_text(event: &Event) -> String {
-    format!("{}:{}:{}", id_text(&event.id), event.lamport, event.payload)
+    let Event {
+        id,
+        lamport,
+        payload,
+        revision,
+        ..
+    } = event;
+    format!("{}:{lamport}:{payload}:{revision}", id_text(id))
 }
 
 impl Answer {

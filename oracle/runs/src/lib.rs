@@ -1,4 +1,4 @@
-//! What the oracle's programs share: the line reader, the answer writer, random numbers, document 01 as plain code, the way to the
+//! What the oracle's programs share: the line reader, the answer writer, random numbers, the documents as plain code, the way to the
 //! original's types and back, and how answers are held against each other and counted.
 
 pub mod answer;

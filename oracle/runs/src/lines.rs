@@ -18,6 +18,7 @@ pub struct Event {
     pub id: Id,
     pub lamport: u64,
     pub payload: u64,
+    pub revision: u32,
     pub version: Vector,
 }
 
@@ -105,6 +106,11 @@ pub fn decimal(word: &[u8]) -> Option<u64> {
     std::str::from_utf8(word).ok()?.parse().ok()
 }
 
+/// A decimal below 2^32.
+fn decimal_32(word: &[u8]) -> Option<u32> {
+    decimal(word)?.try_into().ok()
+}
+
 struct Words<'a>(std::slice::Split<'a, u8, fn(&u8) -> bool>);
 
 impl<'a> Words<'a> {
@@ -115,7 +121,7 @@ impl<'a> Words<'a> {
     fn disambiguator(&mut self) -> Option<Option<u32>> {
         match self.0.next()? {
             b"-" => Some(None),
-            word => Some(Some(decimal(word)?.try_into().ok()?)),
+            word => Some(Some(decimal_32(word)?)),
         }
     }
 
@@ -158,6 +164,7 @@ impl<'a> Words<'a> {
             id: self.id()?,
             lamport: self.number()?,
             payload: self.number()?,
+            revision: decimal_32(self.0.next()?)?,
             version: self.vector()?,
         })
     }

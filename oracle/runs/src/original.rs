@@ -12,6 +12,9 @@ use moirai_protocol::{
 
 use crate::lines::{Event, Id};
 
+/// The operation that the original carries: payload and revision.
+pub type Operation = (u64, u32);
+
 pub fn resolver(replicas: u64) -> Resolver {
     Resolver::new((0..replicas).map(|i| ReplicaId(format!("desk{i}"))).collect())
 }
@@ -41,11 +44,11 @@ pub fn event_id(resolver: &Resolver, id: &Id) -> EventId {
     )
 }
 
-pub fn original_event(resolver: &Resolver, event: &Event) -> moirai_protocol::event::Event<u64> {
+pub fn original_event(resolver: &Resolver, event: &Event) -> moirai_protocol::event::Event<Operation> {
     moirai_protocol::event::Event::new(
         event_id(resolver, &event.id),
         Lamport(event.lamport),
-        event.payload,
+        (event.payload, event.revision),
         version(resolver, event.id.replica, &event.version),
     )
 }
@@ -66,16 +69,18 @@ pub fn id_of(id: &EventId) -> Id {
     }
 }
 
-pub fn event_of(op: &TaggedOp<u64>) -> Event {
+pub fn event_of(op: &TaggedOp<Operation>) -> Event {
+    let (payload, revision) = *op.op();
     Event {
         id: id_of(op.id()),
         lamport: op.lamport().0,
-        payload: *op.op(),
+        payload,
+        revision,
         version: Vec::new(),
     }
 }
 
-pub fn events_of<'a>(ops: impl IntoIterator<Item = &'a TaggedOp<u64>>) -> Vec<Event> {
+pub fn events_of<'a>(ops: impl IntoIterator<Item = &'a TaggedOp<Operation>>) -> Vec<Event> {
     ops.into_iter().map(event_of).collect()
 }
 

@@ -1,4 +1,4 @@
-//! What can occur: every word, and for each the refusal numbers of document 01, the open points and PROBE.md.
+//! What can occur: every word, and for each the refusal numbers of documents 01 and 02, the open points and PROBE.md.
 
 use crate::{counts::Counts, verdict::BAD_LINE};
 
@@ -24,7 +24,7 @@ const WORDS: [(&str, &[u64]); 53] = [
     ("c.dependencies", &[3, 16, 18]),
     ("g.new", &[17]),
     ("g.from", &[3, 17]),
-    ("g.append", &[1, 2, 3, 4, 5, 6, 7, 8, 18]),
+    ("g.append", &[1, 2, 3, 4, 5, 6, 7, 8, 18, 19]),
     ("g.get", &[18]),
     ("g.predecessors", &[3, 16, 18]),
     ("g.concurrent", &[3, 16, 18]),

@@ -19,9 +19,10 @@ pub fn event_words(event: &Event) -> String {
         id,
         lamport,
         payload,
+        revision,
         version,
     } = event;
-    format!("{} {lamport} {payload} {}", id_words(id), spaced(version))
+    format!("{} {lamport} {payload} {revision} {}", id_words(id), spaced(version))
 }
 
 /// A word with numbers after it; where there are none, the bare word.

@@ -11,13 +11,13 @@ use moirai_protocol::{
 };
 use runs::{
     lines::{Event, Id},
-    original::{cuts, event_id, frontier, id_of, original_event, resolver},
+    original::{Operation, cuts, event_id, frontier, id_of, original_event, resolver},
     text::{id_words, numbers_line},
 };
 
 struct Desk {
     names: Resolver,
-    log: EventGraph<u64>,
+    log: EventGraph<Operation>,
 }
 
 impl Desk {
@@ -28,17 +28,23 @@ impl Desk {
         }
     }
 
-    fn append(&mut self, id: Id, numbers: &[u64]) {
+    /// The numbers are what follows the id.
+    fn append(&mut self, id: Id, numbers: &[u64]) -> Option<()> {
+        let [lamport, payload, revision, version @ ..] = numbers else {
+            return None;
+        };
         let event = Event {
             id,
-            lamport: numbers[0],
-            payload: numbers[1],
-            version: numbers[2..].to_vec(),
+            lamport: *lamport,
+            payload: *payload,
+            revision: (*revision).try_into().ok()?,
+            version: version.to_vec(),
         };
         self.log.append(original_event(&self.names, &event));
+        Some(())
     }
 
-    fn removed(&mut self, change: impl FnOnce(&mut EventGraph<u64>)) -> usize {
+    fn removed(&mut self, change: impl FnOnce(&mut EventGraph<Operation>)) -> usize {
         let before = self.log.len();
         change(&mut self.log);
         before - self.log.len()
@@ -56,8 +62,8 @@ impl Desk {
         let (heads, cuts) = (self.heads(), cuts(&self.log));
         writeln!(out, "0\n{} {} {}", self.log.len(), heads.len(), cuts.len())?;
         for (position, event) in self.log.iter().enumerate() {
-            let id = id_words(&id_of(event.id()));
-            writeln!(out, "{position} {id} {} {}", event.lamport().0, event.op())?;
+            let (id, (payload, revision)) = (id_words(&id_of(event.id())), event.op());
+            writeln!(out, "{position} {id} {} {payload} {revision}", event.lamport().0)?;
         }
         writeln!(
             out,
@@ -101,7 +107,7 @@ fn answer(desk: &mut Option<Desk>, line: &str, out: &mut impl Write) -> Option<i
             let id = event_id(&desk.names, &id);
             return Some(writeln!(out, "0 {}", desk.removed(|log| log.remove(&id))));
         }
-        desk.append(id, &numbers(tokens)?);
+        desk.append(id, &numbers(tokens)?)?;
         return Some(writeln!(out, "0"));
     }
     let frontier = frontier(&desk.names, &numbers(tokens)?);

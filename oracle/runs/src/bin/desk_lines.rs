@@ -39,7 +39,14 @@ fn main() -> io::Result<()> {
         }
         clocks[desk][desk] += 1;
         let version = clocks[desk];
-        writeln!(out, "append {desk} {} - {notes} {} {}", version[desk], 1000 + notes, listed(&version))?;
+        writeln!(
+            out,
+            "append {desk} {} - {notes} {} {} {}",
+            version[desk],
+            1000 + notes,
+            notes % 5,
+            listed(&version)
+        )?;
         lines += 1;
         let asked = match random.below(8) {
             0 => Some("greatest"),

@@ -1,4 +1,4 @@
-//! Answers `probe` lines as document 01 has them, refusals included: a stand-in for the port, and a second opinion on it.
+//! Answers `probe` lines as the documents have them, refusals included: a stand-in for the port, and a second opinion on it.
 
 use std::io::{self, BufWriter, Read, Write};
 

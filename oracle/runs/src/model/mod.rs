@@ -1,4 +1,4 @@
-//! Document 01 and the open points written as plain code, by their definitions and with no thought of speed.
+//! Document 01, the open points and the requests of document 02 written as plain code, by their definitions and with no thought of speed.
 //!
 //! It is no part of the comparison with the original. It stands in for the port where none is at hand, gives the
 //! refusal numbers that the original does not have, and tells the generator what a log holds.

@@ -22,7 +22,7 @@ use crate::reply::*;
 pub struct Graph {
     replicas: u64,
     names: Resolver,
-    log: EventGraph<u64>,
+    log: EventGraph<Operation>,
     /// Not in the original: the entrywise maximum of the checkpoint and the versions appended since creation or clear.
     named: Vector,
 }
@@ -136,7 +136,7 @@ impl Graph {
         }
     }
 
-    fn removing(&mut self, change: impl FnOnce(&mut EventGraph<u64>, &Resolver)) -> Reply {
+    fn removing(&mut self, change: impl FnOnce(&mut EventGraph<Operation>, &Resolver)) -> Reply {
         let before = self.log.len();
         change(&mut self.log, &self.names);
         Answer::Number((before - self.log.len()) as u64).into()

@@ -22,7 +22,7 @@ use crate::reply::*;
 pub struct History {
     replicas: u64,
     names: Resolver,
-    log: EventHistory<u64>,
+    log: EventHistory<Operation>,
 }
 
 fn by_replica(mut events: Vec<Event>) -> Answer {
@@ -105,7 +105,7 @@ impl History {
         numbers_after(trace, "VersionEntries([")
     }
 
-    fn removing(&mut self, change: impl FnOnce(&mut EventHistory<u64>)) -> Answer {
+    fn removing(&mut self, change: impl FnOnce(&mut EventHistory<Operation>)) -> Answer {
         let before = self.log.len();
         change(&mut self.log);
         Answer::Number((before - self.log.len()) as u64)

@@ -46,7 +46,7 @@ fn creations(lines: &mut Vec<String>) {
         lines.push(format!("g.from 2 {base} 0"));
         for sequence in [TOP - 1, TOP, TOP + 1] {
             lines.push(format!(
-                "g.append 0 {sequence} - {} {} {sequence} 0",
+                "g.append 0 {sequence} - {} {} 1 {sequence} 0",
                 u64::MAX,
                 u64::MAX
             ));
@@ -54,7 +54,7 @@ fn creations(lines: &mut Vec<String>) {
         lines.extend([
             format!("g.greatest {TOP} {TOP}"),
             format!("g.flush {TOP} 0"),
-            format!("g.append 1 1 - 0 0 {TOP} 1"),
+            format!("g.append 1 1 - 0 0 0 {TOP} 1"),
         ]);
         look(lines);
     }
@@ -64,22 +64,25 @@ fn creations(lines: &mut Vec<String>) {
 fn refusals(lines: &mut Vec<String>) {
     let mut appends = Vec::new();
     for v in [
-        "0 0 0", "1 0 0", "1 1 0", "0 1 1", "1 1 1", "1 2 0", "2 1 1", "2 2 1", "2 1 2", "0 2 0", "3 3 3",
+        "0 0 0", "1 0 0", "1 1 0", "0 1 1", "1 1 1", "1 2 0", "2 1 1", "2 2 1", "2 1 2", "2 0 1", "0 2 0", "3 3 3",
     ] {
         let entries: Vec<&str> = v.split(' ').collect();
         for replica in [0, 1, 2, 3] {
             let own = entries.get(replica).unwrap_or(&"1");
             for sequence in [own, "0", "1", "4294967296"] {
-                appends.push(format!("g.append {replica} {sequence} - 9 9 {v}"));
+                appends.push(format!("g.append {replica} {sequence} - 9 9 5 {v}"));
             }
-            appends.push(format!("g.append {replica} {own} - 9 9 {v} 0"));
+            appends.push(format!("g.append {replica} {own} - 9 9 5 {v} 0"));
+            for revision in [5, 6] {
+                appends.push(format!("g.append {replica} {own} 0 9 9 {revision} {v}"));
+            }
         }
     }
     let notes = [
-        "0 1 - 1 10 1 0 0",
-        "1 1 - 2 11 1 1 0",
-        "2 1 - 2 12 1 0 1",
-        "0 2 - 3 13 2 1 1",
+        "0 1 - 1 10 5 1 0 0",
+        "1 1 - 2 11 5 1 1 0",
+        "2 1 - 2 12 5 1 0 1",
+        "0 2 - 3 13 5 2 1 1",
     ];
     for (count, flush) in [
         (0, ""),
@@ -118,24 +121,27 @@ fn refusals(lines: &mut Vec<String>) {
     look(lines);
 }
 
-/// A note and every two siblings in turn, right after each other and with a note between.
+/// A note and every two siblings in turn, right after each other and with a note between, of one revision and of two.
 fn siblings(lines: &mut Vec<String>) {
     let all = ["-", "0", "1", "4294967294", "4294967295"];
     for first in all {
         for second in all {
             for between in [
-                "",
-                "g.append 1 1 - 2 2 0 1",
-                "g.append 1 1 - 2 2 1 1",
-                "g.flush 1 0",
-                "g.remove 0 1 -",
+                &[][..],
+                &["g.append 1 1 - 2 2 2 0 1"],
+                &["g.append 1 1 - 2 2 2 1 1"],
+                &["g.append 0 2 - 2 2 2 2 0", "g.remove 0 2 -"],
+                &["g.flush 1 0"],
+                &["g.remove 0 1 -"],
             ] {
-                lines.push("g.new 2".to_string());
-                lines.push(format!("g.append 0 1 {first} 1 1 1 0"));
-                lines.extend((!between.is_empty()).then(|| between.to_string()));
-                lines.push(format!("g.append 0 1 {second} 3 3 1 0"));
-                lines.extend(["g.cuts", "g.heads", "g.iter"].map(str::to_string));
-                lines.push(format!("g.parents 0 1 {second}"));
+                for revision in [1, 2] {
+                    lines.push("g.new 2".to_string());
+                    lines.push(format!("g.append 0 1 {first} 1 1 1 1 0"));
+                    lines.extend(between.iter().map(|line| line.to_string()));
+                    lines.push(format!("g.append 0 1 {second} 3 3 {revision} 1 0"));
+                    lines.extend(["g.cuts", "g.heads", "g.iter"].map(str::to_string));
+                    lines.push(format!("g.parents 0 1 {second}"));
+                }
             }
         }
     }
@@ -144,7 +150,7 @@ fn siblings(lines: &mut Vec<String>) {
 /// Note number i of one desk, each heard by the next.
 fn chain(i: u64) -> String {
     format!(
-        "0 {} 4294967295 {m} {m} {s}",
+        "0 {} 4294967295 {m} {m} 4294967295 {s}",
         TOP - 300 + i,
         m = u64::MAX,
         s = spaced(&[&[TOP - 300 + i][..], &[0; 15]].concat())
@@ -156,7 +162,14 @@ fn braid(i: u64) -> String {
     let (desk, sequence) = (i % 16, i / 16 + 1);
     let mut version = vec![0; 16];
     version[desk as usize] = sequence;
-    format!("{desk} {sequence} - {i} {i} {}", spaced(&version))
+    format!("{desk} {sequence} - {i} {i} 0 {}", spaced(&version))
+}
+
+/// The note with disambiguator 0 and this revision.
+fn sibling(note: &str, revision: &str) -> String {
+    let mut words: Vec<&str> = note.split(' ').collect();
+    (words[2], words[5]) = ("0", revision);
+    words.join(" ")
 }
 
 fn full(filler: fn(u64) -> String, lines: &mut Vec<String>) {
@@ -167,9 +180,17 @@ fn full(filler: fn(u64) -> String, lines: &mut Vec<String>) {
         format!("g.append {}", filler(255)),
         "g.len".to_string(),
     ]);
-    // Full comes last: known, late and a bad event are told first.
+    // Full comes last: known, late, another revision and a bad event are told first.
     lines.extend([filler(256), filler(255), filler(3)].map(|note| format!("g.append {note}")));
-    lines.extend(["g.append 16 1 - 1 1 1", "g.append 0 0 - 1 1 1", "g.append 0 1 - 1 1 1"].map(str::to_string));
+    lines.extend(["0", "1"].map(|revision| format!("g.append {}", sibling(&filler(255), revision))));
+    lines.extend(
+        [
+            "g.append 16 1 - 1 1 1 1",
+            "g.append 0 0 - 1 1 1 1",
+            "g.append 0 1 - 1 1 1 1",
+        ]
+        .map(str::to_string),
+    );
     let top = spaced(&[TOP; 16]);
     let zeros = spaced(&[0; 16]);
     for question in [
@@ -206,7 +227,7 @@ fn full(filler: fn(u64) -> String, lines: &mut Vec<String>) {
     // An event with all desks as its parents.
     lines.push("g.new 16".to_string());
     lines.extend((0..15).map(|i| format!("g.append {}", braid(i))));
-    lines.push(format!("g.append 15 1 - 1 1 {}", spaced(&[1; 16])));
+    lines.push(format!("g.append 15 1 - 1 1 1 {}", spaced(&[1; 16])));
     at_each_room("g.parents 15 1 -", 15, lines);
     at_each_room("g.replica-events 3 1 2", 1, lines);
 }

@@ -8,7 +8,12 @@ use runs::{
 use crate::{NUMBERS, at_each_room, vectors};
 
 /// History H of document 01.
-const H: [&str; 4] = ["0 1 - 1 10 1 0", "1 1 - 2 11 1 1", "0 2 - 3 12 2 0", "0 3 - 4 13 3 1"];
+const H: [&str; 4] = [
+    "0 1 - 1 10 7 1 0",
+    "1 1 - 2 11 8 1 1",
+    "0 2 - 3 12 9 2 0",
+    "0 3 - 4 13 7 3 1",
+];
 
 fn h(lines: &mut Vec<String>) {
     lines.push("h.new 2".to_string());
@@ -20,7 +25,7 @@ pub fn edges(lines: &mut Vec<String>) {
         lines.push(format!("h.new {replicas}"));
         for v in vectors(replicas).iter().map(|v| spaced(v)) {
             lines.extend(["predecessors", "concurrent", "prune"].map(|word| format!("h.{word} {v}")));
-            lines.push(format!("h.append 0 1 - 1 1 {v}"));
+            lines.push(format!("h.append 0 1 - 1 1 1 {v}"));
         }
         lines.extend(["h.iter", "h.len", "h.retain", "h.clear", "h.retain", "h.is-empty"].map(str::to_string));
     }
@@ -43,7 +48,7 @@ fn appends(lines: &mut Vec<String>) {
                     };
                     h(lines);
                     lines.extend((!prune.is_empty()).then(|| prune.to_string()));
-                    lines.push(format!("h.append {replica} {sequence} 7 1 1 {}", spaced(&v)));
+                    lines.push(format!("h.append {replica} {sequence} 7 1 1 1 {}", spaced(&v)));
                     lines.extend(["h.last-version 0", "h.last-version 1", "h.len"].map(str::to_string));
                 }
             }
@@ -120,7 +125,7 @@ fn full(lines: &mut Vec<String>) {
         let mut version = vec![0; 16];
         version[desk] = sequence;
         format!(
-            "h.append {desk} {sequence} 4294967295 {m} {m} {v}",
+            "h.append {desk} {sequence} 4294967295 {m} {m} 4294967295 {v}",
             m = u64::MAX,
             v = spaced(&version)
         )

@@ -1,4 +1,4 @@
-//! Prints a fixed list of probe lines: every word before its log is made, and document 01's edges on both sides. It takes no arguments.
+//! Prints a fixed list of probe lines: every word before its log is made, and the documents' edges on both sides. It takes no arguments.
 //! The last line lacks its newline.
 
 mod clocks;
@@ -25,7 +25,7 @@ const BEFORE: [&str; 48] = [
     "c.increment 0 1",
     "c.vjoin 0 1 | 0 1",
     "c.dependencies 0 1",
-    "g.append 0 1 - 1 1 1",
+    "g.append 0 1 - 1 1 1 1",
     "g.get 0 1 -",
     "g.predecessors 1",
     "g.concurrent 1",
@@ -45,7 +45,7 @@ const BEFORE: [&str; 48] = [
     "g.remove 0 1 -",
     "g.retain 1",
     "g.clear",
-    "h.append 0 1 - 1 1 1",
+    "h.append 0 1 - 1 1 1 1",
     "h.get 0 1 -",
     "h.version 0 1 -",
     "h.last-version 0",
@@ -89,6 +89,19 @@ pub fn vectors(replicas: u64) -> Vec<Vec<u64>> {
     all
 }
 
+/// Revisions at and past the edge, in both logs.
+fn revisions(lines: &mut Vec<String>) {
+    for log in ["g", "h"] {
+        for revision in NUMBERS {
+            lines.extend([
+                format!("{log}.new 1"),
+                format!("{log}.append 0 1 - 1 1 {revision} 1"),
+                format!("{log}.iter"),
+            ]);
+        }
+    }
+}
+
 /// Lines one byte shorter than the longest, as long, and one byte longer.
 fn long_lines(lines: &mut Vec<String>) {
     for word in ["g.retain", "h.retain"] {
@@ -115,6 +128,7 @@ fn main() -> io::Result<()> {
     clocks::edges(&mut lines);
     graph::edges(&mut lines);
     history::edges(&mut lines);
+    revisions(&mut lines);
     long_lines(&mut lines);
     io::stdout().lock().write_all(lines.join("\n").as_bytes())
 }

@@ -7,7 +7,7 @@ use runs::{
     text::{event_words, id_words, spaced, up_to},
 };
 
-use crate::logs::{early, orders, tops};
+use crate::logs::{early, orders, sibling, tops};
 
 /// A graph that holds the log, in the lines and in the model.
 fn bring(replicas: usize, log: &[Event], lines: &mut Vec<String>) -> Probe {
@@ -25,10 +25,18 @@ fn look(log: &[Event], lines: &mut Vec<String>) {
     lines.extend(log.iter().map(|event| format!("g.parents {}", id_words(&event.id))));
 }
 
+/// A sibling that is refused for its revision.
+fn of_another_revision(elder: &Event) -> String {
+    let mut sibling = sibling(elder);
+    sibling.revision += 1;
+    format!("g.append {}", event_words(&sibling))
+}
+
 pub fn ask(replicas: usize, log: &[Event], lines: &mut Vec<String>) {
     let bounds = up_to(&tops(replicas, log));
     let mut probe = bring(replicas, log, lines);
     look(log, lines);
+    lines.extend(log.last().map(of_another_revision));
     let mut critical = Vec::new();
     for bound in &bounds {
         let question = format!("g.is-critical {}", spaced(bound));

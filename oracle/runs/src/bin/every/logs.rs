@@ -13,6 +13,7 @@ fn note(id: Id, version: Vector) -> Event {
     Event {
         lamport: version.iter().sum(),
         payload: 100 * id.replica + 10 * id.sequence + id.disambiguator.map_or(0, |d| u64::from(d) + 1),
+        revision: (10 * id.replica + id.sequence) as u32,
         id,
         version,
     }
@@ -45,17 +46,18 @@ fn next(replicas: usize, log: &[Event], siblings: bool) -> Vec<Event> {
             found.push(note(id, heard));
         }
     }
-    if let Some(last) = log.last().filter(|_| siblings) {
-        let disambiguator = Some(last.id.disambiguator.map_or(0, |d| d + 1));
-        found.push(note(
-            Id {
-                disambiguator,
-                ..last.id
-            },
-            last.version.clone(),
-        ));
-    }
+    found.extend(log.last().filter(|_| siblings).map(sibling));
     found
+}
+
+/// The next sibling of the note.
+pub fn sibling(elder: &Event) -> Event {
+    let disambiguator = Some(elder.id.disambiguator.map_or(0, |d| d + 1));
+    let id = Id {
+        disambiguator,
+        ..elder.id
+    };
+    note(id, elder.version.clone())
 }
 
 /// Every log of up to so many notes, the empty one included.

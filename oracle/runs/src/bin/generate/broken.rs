@@ -3,7 +3,7 @@
 use runs::{lines::LONGEST, random::Random};
 
 /// At the edges of numbers; some are good lines.
-const EDGES: [&str; 10] = [
+const EDGES: [&str; 13] = [
     "g.retain 256",
     "h.retain 256",
     "g.retain 1 300",
@@ -11,6 +11,9 @@ const EDGES: [&str; 10] = [
     "h.get 0 1 4294967296",
     "g.get 0 1 4294967295",
     "h.get 0 18446744073709551615 -",
+    "g.append 0 1 - 1 1 4294967296 1",
+    "h.append 0 1 - 1 1 4294967296 1",
+    "g.append 0 1 - 1 1 4294967295 1",
     "room 1025",
     "room 01",
     "c.sum 0 0 0 0 0 0 0 0 0 0 0 0 0 0 0 0 0",

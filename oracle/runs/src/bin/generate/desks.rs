@@ -6,7 +6,7 @@ use runs::{
     random::Random,
 };
 
-use crate::values::anything;
+use crate::values::{anything, revision};
 
 #[derive(Default)]
 pub struct Desks {
@@ -52,6 +52,7 @@ impl Desks {
             },
             lamport: if odd { anything(random) } else { self.clock },
             payload: if odd { anything(random) } else { 1000 + self.clock },
+            revision: revision(random),
             version: self.seen[desk].clone(),
         })
     }

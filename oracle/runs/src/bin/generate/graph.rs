@@ -118,6 +118,7 @@ impl GraphStory {
             },
             lamport: random.below(100),
             payload: random.below(1000),
+            revision: revision(random),
             version,
         };
         if let Some(last) = graph.held.last()
@@ -125,6 +126,9 @@ impl GraphStory {
         {
             event.id = last.id;
             event.id.disambiguator = disambiguator(random);
+            if random.chance(70) {
+                event.revision = last.revision;
+            }
             if random.chance(70) {
                 event.version = join(&last.version, &event.version);
             }
@@ -180,18 +184,29 @@ impl GraphStory {
         }
         let taken = self.append(page, event.clone());
         while taken && page.random.chance(12) && !page.full() {
-            let random = &mut page.random;
-            event.id.disambiguator = match event.id.disambiguator {
-                _ if random.chance(15) => disambiguator(random),
-                None => Some(random.below(2) as u32 * 7),
-                Some(d) => Some(d.saturating_add(1 + random.below(3) as u32)),
-            };
-            event.payload = random.below(1000);
-            if random.chance(10) {
-                nudge(random, &mut event.version);
+            let sibling = self.sibling(&mut page.random, &event);
+            if self.append(page, sibling.clone()) {
+                event = sibling;
             }
-            self.append(page, event.clone());
         }
+    }
+
+    /// A sibling of the event, most often one that may follow it.
+    fn sibling(&self, random: &mut Random, event: &Event) -> Event {
+        let mut sibling = event.clone();
+        sibling.id.disambiguator = match event.id.disambiguator {
+            _ if random.chance(15) => disambiguator(random),
+            None => Some(random.below(2) as u32 * 7),
+            Some(d) => Some(d.saturating_add(1 + random.below(3) as u32)),
+        };
+        sibling.payload = random.below(1000);
+        if random.chance(20) {
+            sibling.revision = revision(random);
+        }
+        if random.chance(10) {
+            nudge(random, &mut sibling.version);
+        }
+        sibling
     }
 
     fn spoil(&self, random: &mut Random, event: &mut Event) {
@@ -205,13 +220,7 @@ impl GraphStory {
     }
 
     fn append(&mut self, page: &mut Page, event: Event) -> bool {
-        let line = format!(
-            "g.append {} {} {} {}",
-            id_words(&event.id),
-            event.lamport,
-            event.payload,
-            spaced(&event.version)
-        );
+        let line = format!("g.append {}", event_words(&event));
         self.brought.push(event);
         page.say(line) == Answer::Done
     }

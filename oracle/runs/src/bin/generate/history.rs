@@ -73,14 +73,7 @@ impl HistoryStory {
                 _ => nudge(random, &mut event.version),
             }
         }
-        let line = format!(
-            "h.append {} {} {} {}",
-            id_words(&event.id),
-            event.lamport,
-            event.payload,
-            spaced(&event.version)
-        );
-        if page.say(line) == Answer::Done {
+        if page.say(format!("h.append {}", event_words(&event))) == Answer::Done {
             let same = |e: &Event| e.id.replica == event.id.replica && e.id.sequence == event.id.sequence;
             self.waiting.retain(|e| !same(e));
         }

@@ -100,7 +100,7 @@ fn main() -> io::Result<()> {
         "c.sum 1",
         "g.len",
         "h.len",
-        "g.append 0 1 - 1 10 1",
+        "g.append 0 1 - 1 10 1 1",
         "h.clear",
         "c.replicas 0",
         "c.sum 1",

@@ -1,6 +1,6 @@
 //! Numbers, vectors and ids: mostly of the right shape, some at an edge, some past it.
 
-pub use runs::text::{id_words, spaced};
+pub use runs::text::{event_words, id_words, spaced};
 use runs::{lines::TOP, random::Random};
 
 pub const EDGES: [u64; 8] = [0, 1, 2, TOP - 1, TOP, TOP + 1, u64::MAX - 1, u64::MAX];
@@ -35,6 +35,14 @@ pub fn disambiguator(random: &mut Random) -> Option<u32> {
         6..=7 => Some(0),
         8 => Some(1 + random.below(3) as u32),
         _ => Some(*random.pick(&[u32::MAX - 1, u32::MAX])),
+    }
+}
+
+/// Few values, so that siblings often agree by chance too; some at the edges.
+pub fn revision(random: &mut Random) -> u32 {
+    match random.below(10) {
+        0 => *random.pick(&[u32::MAX - 1, u32::MAX]),
+        _ => random.below(4) as u32,
     }
 }
 

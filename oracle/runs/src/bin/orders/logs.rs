@@ -80,11 +80,12 @@ impl Making {
     /// A refused line, which changes nothing: a note at a wrong moment, or a flush at no critical frontier.
     fn disturb(&mut self, random: &mut Random, notes: &Notes, last: Option<&Vector>) {
         let all: Vec<&Event> = notes.all().collect();
-        let event = *random.pick(&all);
-        if self.graph().append_refusal(event).is_some() {
-            self.say(format!("g.append {}", event_words(event)));
+        let mut event = (*random.pick(&all)).clone();
+        event.revision += u32::from(random.chance(30));
+        if self.graph().append_refusal(&event).is_some() {
+            self.say(format!("g.append {}", event_words(&event)));
         }
-        let frontier = last.cloned().unwrap_or(event.version.clone());
+        let frontier = last.cloned().unwrap_or(event.version);
         if !self.graph().is_critical(&frontier) {
             self.say(format!("g.flush {}", spaced(&frontier)));
         }

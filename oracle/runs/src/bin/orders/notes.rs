@@ -86,6 +86,7 @@ impl Notes {
             },
             lamport: random.below(100),
             payload: random.below(1000),
+            revision: random.below(3) as u32,
             version: seen[desk].clone(),
         };
         let mut group = vec![event.clone()];
