@@ -27,6 +27,7 @@ unsafe extern "C" {
     fn port_graph_delivery_order(rows: *const usize, len: usize, n: usize, q: *const usize, ql: usize, m: usize, rounds: usize) -> usize;
     fn port_graph_roots(rows: *const usize, len: usize, n: usize, rounds: usize) -> usize;
     fn port_graph_flush(rows: *const usize, len: usize, n: usize, q: *const usize, ql: usize, m: usize, rounds: usize, slots: *mut usize, pasts: *mut u64) -> usize;
+    fn port_graph_advance(rows: *const usize, len: usize, n: usize, q: *const usize, ql: usize, m: usize, rounds: usize, slots: *mut usize, pasts: *mut u64) -> usize;
     fn port_graph_remove(rows: *const usize, len: usize, n: usize, q: *const usize, ql: usize, m: usize, rounds: usize, slots: *mut usize, pasts: *mut u64) -> usize;
     fn port_graph_retain(rows: *const usize, len: usize, n: usize, mask: *const u8, ml: usize, rounds: usize, slots: *mut usize, pasts: *mut u64) -> usize;
 }
@@ -89,6 +90,17 @@ pub fn measure() -> Vec<Row> {
             "flush of half",
             changed_at(port_graph_flush, middle),
             changed(50, &|log| log.prune_predecessors(&frontiers[HELD / 2 - 1])),
+        ),
+        // No slower than the flush alone by more than a quarter.
+        faster(
+            48.0,
+            "advance by half",
+            changed_at(port_graph_advance, middle),
+            changed(50, &|log| {
+                if let Some(found) = log.greatest_critical_frontier(&frontiers[HELD / 2 - 1]) {
+                    log.prune_predecessors(&found);
+                }
+            }),
         ),
         faster(60.0, "remove from the middle", changed_at(port_graph_remove, middle), changed(10, &|log| log.remove(&ids[HELD / 2 - 1]))),
         faster(60.0, "retain every second", masked(port_graph_retain, &mask), changed(10, &|log| log.retain(|op| op.lamport().0 % 2 == 0))),
