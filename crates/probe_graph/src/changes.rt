@@ -92,7 +92,7 @@ fn turned(
     match word {
         APPEND => appended(
             g,
-            g.append(event(kinds, values), vector(kinds, values, 5), slots, pasts),
+            g.append(event(kinds, values), vector(kinds, values, 6), slots, pasts),
         ),
         FLUSH => removed(g, g.prune_predecessors(values, slots, pasts)),
         REMOVE => removed(g, g.remove(id(kinds, values), slots, pasts)),

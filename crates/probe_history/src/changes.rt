@@ -61,7 +61,7 @@ pub fn called(
     let h = t.history;
     if word == APPEND {
         let event = event(kinds, values);
-        let v = vector(kinds, values, 5);
+        let v = vector(kinds, values, 6);
         return appended(h, h.append(event, v, versions, notes, boundaries));
     }
     taken(word, h, kinds, values, versions, boundaries)

@@ -1,11 +1,10 @@
 -- What is accepted stands behind the others as it was handed in, and they stay; siblings carry one revision.
 use mathlib.Core.List.{List}
 use mathlib.Core.Logic.{⊎-elim}
-use mathlib.Core.Path.{_≡_, refl, sym}
+use mathlib.Core.Path.{_≡_, sym}
 use Prim.Native.Nat.{ℕ, _<_, _≤_}
 use native.Mathlib.Decide.{ℕ-discrete}
 use native.Mathlib.Omega.{arith}
-use lib.Dec.{eqb}
 use borrow.Author.Tests.{eq-eqb}
 use Rattle.laws.proofs.Orders.{le-or-lt}
 use Rattle.clocks.proofs.Vectors.{well-formed-for}
@@ -33,13 +32,17 @@ module _ (g h : EventGraph) (e : Event) (v : List ℕ) (p : OneMore g h e v) whe
     revision = p .oldRevision k l;
   }
 
-pub append-documented : (g : EventGraph) (W : Versions) → LogOk g W → (e : Event) (v : List ℕ) → appended g e v .refusal ≡ 0 → AppendedLast g e v
+accepted-more : (g : EventGraph) (W : Versions) → LogOk g W → (e : Event) (v : List ℕ) → appended g e v .refusal ≡ 0 → OneMore g (appended g e v .graph) e v
 unfolding appended
-append-documented g W ok e v taken =
+accepted-more g W ok e v taken =
     let a = accepted-facts g (e .id) (e .revision) v taken in
     let p = push-one-more g e v (ok .graph) (ok .notes) (a .fits) (well-formed-for (g .named .len) v (e .id) (a .vector) .0) in
-    rw (eq-eqb (refusalOf g (e .id) (e .revision) v) 0 taken)
-    (record { number = p .held; new = new-event g (pushed g e v) e v p; stays = old-note-stays g (pushed g e v) e v p })
+    rw (eq-eqb (refusalOf g (e .id) (e .revision) v) 0 taken) p
+
+pub append-documented : (g : EventGraph) (W : Versions) → LogOk g W → (e : Event) (v : List ℕ) → appended g e v .refusal ≡ 0 → AppendedLast g e v
+append-documented g W ok e v taken =
+    let p = accepted-more g W ok e v taken in
+    record { number = p .held; new = new-event g (appended g e v .graph) e v p; stays = old-note-stays g (appended g e v .graph) e v p }
 
 pub one-revision : (g : EventGraph) → NotesOk g → (j k : ℕ) → j < g .held → k < g .held → Siblings g j k → revisionAt g j ≡ revisionAt g k
 one-revision g notes j k l m s = elim (ℕ-discrete j k) [

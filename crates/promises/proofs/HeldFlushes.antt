@@ -53,8 +53,12 @@ module _ (start g : EventGraph) (W : Versions) (ns : List Note) (last : Last) (o
         let r = stands g (stays g f) ok (stays-held g f) (g .replicas) k l in
         let s = stands g (stays g f) ok (stays-held g f) (g .seqs) k l in
         let c = stands g (stays g f) ok (stays-held g f) (g .codes) k l in
-        let at = λ (xs : List ℕ). stands g (stays g f) ok (stays-held g f) xs k l in
-        note-moves k (was g (stays g f) ok (stays-held g f) k l) n l (record { id = record { replica = r; seq = s; code = c }; lamport = at (g .lamports); op = at (g .ops); revision = at (g .revisions) }) (rw (r, s, c)) a
+        note-moves k (was g (stays g f) ok (stays-held g f) k l) n l (record {
+          id = record { replica = r; seq = s; code = c };
+          lamport = stands g (stays g f) ok (stays-held g f) (g .lamports) k l;
+          op = stands g (stays g f) ok (stays-held g f) (g .ops) k l;
+          revision = stands g (stays g f) ok (stays-held g f) (g .revisions) k l;
+        }) (rw (r, s, c)) a
 
     -- and what is not contained remains
     kept-note : (k : ℕ) (n : Note) → stays g f k ≡ true → NoteAt g W k n → NoteAt rest W (rank (setOf (stays g f)) k) n
@@ -64,9 +68,13 @@ module _ (start g : EventGraph) (W : Versions) (ns : List Note) (last : Last) (o
         let r = closed-at (stays g f) (g .replicas) k l e in
         let s = closed-at (stays g f) (g .seqs) k l e in
         let c = closed-at (stays g f) (g .codes) k l e in
-        let at = λ (xs : List ℕ). closed-at (stays g f) xs k l e in
         note-moves (rank (setOf (stays g f)) k) k n (omega (arith, rank-count (stays g f) k (omega arith), count-rises (stays g f) k 256 l e))
-        (record { id = record { replica = r; seq = s; code = c }; lamport = at (g .lamports); op = at (g .ops); revision = at (g .revisions) }) (rw (r, s, c)) a
+        (record {
+          id = record { replica = r; seq = s; code = c };
+          lamport = closed-at (stays g f) (g .lamports) k l e;
+          op = closed-at (stays g f) (g .ops) k l e;
+          revision = closed-at (stays g f) (g .revisions) k l e;
+        }) (rw (r, s, c)) a
 
     -- what was contained still is: roots only rise
     still-gone : (last : Last) (n : Note) → RootsAre start g last → Contained last n → Contained (at f) n
