@@ -167,7 +167,7 @@ fn history_word(
     values: &[usize],
     out: &mut [u8; 65_536],
     versions: &mut [Seq; 8192],
-    notes: &mut [u64; 1536],
+    notes: &mut [u64; 2048],
     boundaries: &mut [Seq; 256],
 ) -> State {
     st.traced(probe_history::answer(
