@@ -81,6 +81,41 @@ pub extern "C" fn port_graph_flush(
     looked_at(sum, last, rows, slots)
 }
 
+fn advanced(g: EventGraph, note: &[usize], slots: &mut Slots, pasts: &mut Pasts) -> Removed {
+    let a = g.advance(version(note), slots, pasts);
+    let graph = a.graph;
+    Removed {
+        refusal: a.refusal,
+        count: a.count,
+        graph,
+    }
+}
+
+#[no_mangle]
+pub extern "C" fn port_graph_advance(
+    rows: &[usize],
+    n: usize,
+    queries: &[usize],
+    m: usize,
+    rounds: usize,
+    slots: &mut Slots,
+    pasts: &mut Pasts,
+) -> usize {
+    let mut made_slots = [[0; 256]; COLUMNS];
+    let mut made_pasts = [0; 1024];
+    let g = built(rows, n, &mut made_slots, &mut made_pasts);
+    let mut last = g;
+    let mut sum: usize = 0;
+    for k in 0..rounds {
+        *slots = made_slots;
+        *pasts = made_pasts;
+        let r = advanced(g, asked(queries, k, m), slots, pasts);
+        last = r.graph;
+        sum = std::num::wrapping_add_usize(sum, r.count);
+    }
+    looked_at(sum, last, rows, slots)
+}
+
 fn removed(g: EventGraph, note: &[usize], slots: &mut Slots, pasts: &mut Pasts) -> Removed {
     g.remove(id(note), slots, pasts)
 }

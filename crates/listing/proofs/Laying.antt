@@ -41,7 +41,7 @@ laid-then out at ps qs out′ out″ r′ r″ l m =
     }
 
 -- one more number
-spaced-append : (ns ms : List ℕ) → spaced (ns ++ ms) ≡ spaced ns ++ spaced ms
+pub spaced-append : (ns ms : List ℕ) → spaced (ns ++ ms) ≡ spaced ns ++ spaced ms
 unfolding spaced
 spaced-append [] ms = refl
 spaced-append (n ∷ ns) ms = rw (spaced-append ns ms)

@@ -17,7 +17,7 @@ use Rattle.clocks.specs.declared.id.Disambiguator.{Disambiguator}
 use Rattle.clocks.specs.declared.id.Disambiguator.the-variants.{Absent, Number as number}
 use Rattle.clocks.specs.declared.id.EventId.{EventId}
 use Rattle.listing.specs.declared.command.Command.{Command}
-use Rattle.listing.specs.declared.command.Command.the-variants.{Replicas, Append, Greatest, Check, Flush, Remove, Sheet}
+use Rattle.listing.specs.declared.command.Command.the-variants.{Replicas, Append, Greatest, Check, Advance, Remove, Sheet}
 use Rattle.listing.specs.declared.command.Read.the-variants.{Line}
 use Rattle.listing.proofs.Laying.{size-spaced}
 use Rattle.listing.proofs.Said.{text, Small, tagText, idThen, spaced-at, end-left, digits-text, entries-at, id-at}
@@ -51,11 +51,11 @@ module _ (n : ℕ) (ns : List ℕ) (ok : Sayable (n ∷ ns)) where
       rw (le-ltb 512 (length (bytes "check" ++ text (n ∷ ns))) (short (bytes "check") (omega arith)))
       (vector-told Check (bytes "check" ++ text (n ∷ ns)) 5 (n ∷ ns) ok refl)
 
-  pub read-flush : lineTold 16 (bytes "flush" ++ text (n ∷ ns)) ≡ (Line (Flush (length (n ∷ ns))), n ∷ ns)
+  pub read-advance : lineTold 16 (bytes "advance" ++ text (n ∷ ns)) ≡ (Line (Advance (length (n ∷ ns))), n ∷ ns)
   unfolding lineTold byWord bytesBefore sameBytes bytes joined spaced
-  read-flush =
-      rw (le-ltb 512 (length (bytes "flush" ++ text (n ∷ ns))) (short (bytes "flush") (omega arith)))
-      (vector-told Flush (bytes "flush" ++ text (n ∷ ns)) 5 (n ∷ ns) ok refl)
+  read-advance =
+      rw (le-ltb 512 (length (bytes "advance" ++ text (n ∷ ns))) (short (bytes "advance") (omega arith)))
+      (vector-told Advance (bytes "advance" ++ text (n ∷ ns)) 7 (n ∷ ns) ok refl)
 
 pub read-replicas : (r : ℕ) → r < 2 ^ 64 → lineTold 16 (bytes "replicas" ++ text (r ∷ [])) ≡ (Line (Replicas r), [])
 unfolding lineTold byWord bytesBefore sameBytes bytes joined spaced replicasLine digitsIn

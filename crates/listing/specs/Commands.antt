@@ -24,7 +24,7 @@ use Rattle.listing.specs.declared.fields.Noted.the-variants.{Note, NoNot
 use Rattle.listing.specs.declared.fields.Vector.{Vector}
 use Rattle.listing.specs.declared.fields.Vector.the-variants.{Entries, NoVector}
 use Rattle.listing.specs.declared.command.Command.{Command}
-use Rattle.listing.specs.declared.command.Command.the-variants.{Replicas, Append, Greatest, Check, Flush, Remove, Sheet}
+use Rattle.listing.specs.declared.command.Command.the-variants.{Replicas, Append, Greatest, Check, Advance, Remove, Sheet}
 use Rattle.listing.specs.declared.command.Read.{Read}
 use Rattle.listing.specs.declared.command.Read.the-variants.{Line, NoLine}
 
@@ -128,7 +128,7 @@ removeLine s at = withId (spacedId s at) nothing (λ i next. pick (leb (length s
 unfoldable pub sheetLine : List ℕ → ℕ → Told
 sheetLine s at = pick (leb (length s) at) (Line Sheet, []) nothing
 
--- a word with a vector behind it: greatest v.., check v.., flush v..
+-- a word with a vector behind it: greatest v.., check v.., advance v..
 unfoldable pub vectorLine : (ℕ → Command) → ℕ → List ℕ → ℕ → Told
 vectorLine make room s at = (withVector (vectorAt room s at) make, entries (most room) s at)
 
@@ -143,7 +143,7 @@ byWord room s word =
     (pick (sameBytes word (bytes "append")) (appendLine room s (length word))
     (pick (sameBytes word (bytes "greatest")) (vectorLine Greatest room s (length word))
     (pick (sameBytes word (bytes "check")) (vectorLine Check room s (length word))
-    (pick (sameBytes word (bytes "flush")) (vectorLine Flush room s (length word))
+    (pick (sameBytes word (bytes "advance")) (vectorLine Advance room s (length word))
     (pick (sameBytes word (bytes "remove")) (removeLine s (length word))
     (pick (sameBytes word (bytes "sheet")) (sheetLine s (length word)) nothing))))))
 

@@ -3,7 +3,7 @@ ghost use mathlib.Core.List.{[], _∷_, _++_};
 ghost use lib.ListN.{take};
 ghost use Rattle.text.specs.Numbers.{spelled};
 ghost use Rattle.listing.specs.Laying.{Laid, spaced, newline, lineOf};
-ghost use Rattle.listing.specs.Answers.{numberLine, noneLine, greatestAnswer, checkAnswer, countAnswer};
+ghost use Rattle.listing.specs.Answers.{numberLine, noneLine, greatestAnswer, checkAnswer, advanceAnswer, countAnswer};
 use clocks::causal_frontier::CausalFrontier;
 use clocks::refusal::ACCEPTED;
 use clocks::vector::DESKS;
@@ -102,7 +102,32 @@ pub fn greatest_answer(out: &mut [u8], at: usize, f: FrontierFound) -> usize
     none_line(out, at)
 }
 
-// What `flush` and `remove` removed.
+// 0, a frontier's entries and a count.
+fn counted_line(out: &mut [u8], at: usize, f: CausalFrontier, count: usize) -> usize
+    ensures { λ r. ⌜ Laid (now (out .entry)) at (lineOf (spelled 0) (take (f .len) (f .entries) ++ (count ∷ []))) (now (out .exit)) r ⌝ }
+{
+    let entries = f.entries();
+    let n = smaller(f.len(), DESKS);
+    let at = decimal(out, at, ACCEPTED);
+    let at = spaced_decimals(out, at, &entries[0..n]);
+    let list = [count];
+    line_rest(out, at, &list)
+}
+
+// What `advance` found, and how many went.
+pub fn advance_answer(out: &mut [u8], at: usize, f: FrontierFound, count: usize) -> usize
+    ensures { λ r. ⌜ Laid (now (out .entry)) at (advanceAnswer f count) (now (out .exit)) r ⌝ }
+{
+    if f.refusal != ACCEPTED {
+        return number_line(out, at, f.refusal);
+    }
+    if f.found {
+        return counted_line(out, at, f.frontier, count);
+    }
+    none_line(out, at)
+}
+
+// What `remove` removed.
 pub fn count_answer(out: &mut [u8], at: usize, number: usize, count: usize) -> usize
     ensures { λ r. ⌜ Laid (now (out .entry)) at (countAnswer number count) (now (out .exit)) r ⌝ }
 {

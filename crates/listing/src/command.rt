@@ -30,8 +30,8 @@ pub enum Command {
     Greatest(usize),
     // The frontier.
     Check(usize),
-    // The frontier.
-    Flush(usize),
+    // The bound.
+    Advance(usize),
     Remove(EventId),
     Sheet,
 }
@@ -102,15 +102,15 @@ fn check_line(s: &[u8], at: usize, vector: &mut [Seq]) -> Read
     Read::Line(Command::Check(n))
 }
 
-// flush v..
-fn flush_line(s: &[u8], at: usize, vector: &mut [Seq]) -> Read
-    ensures { λ r. ⌜ Tells (vectorLine Command.Flush (length (now (vector .entry))) (now (s .entry)) at) (now (vector .entry)) (now (vector .exit)) r ⌝ }
+// advance v..
+fn advance_line(s: &[u8], at: usize, vector: &mut [Seq]) -> Read
+    ensures { λ r. ⌜ Tells (vectorLine Command.Advance (length (now (vector .entry))) (now (s .entry)) at) (now (vector .entry)) (now (vector .exit)) r ⌝ }
 {
     let v = read_vector(s, at, vector);
     let Vector::Entries(n) = v else {
         return Read::NoLine;
     };
-    Read::Line(Command::Flush(n))
+    Read::Line(Command::Advance(n))
 }
 
 // append O S D L P REV v..
@@ -145,8 +145,8 @@ fn by_word(s: &[u8], word: &[u8], vector: &mut [Seq]) -> Read
     if same(word, b"check") {
         return check_line(s, at, vector);
     }
-    if same(word, b"flush") {
-        return flush_line(s, at, vector);
+    if same(word, b"advance") {
+        return advance_line(s, at, vector);
     }
     if same(word, b"remove") {
         return remove_line(s, at);

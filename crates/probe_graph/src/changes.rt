@@ -161,7 +161,7 @@ fn retained(g: EventGraph, values: &[usize], slots: &mut Slots, pasts: &mut Past
 }
 
 // Whether two graphs tell another number of events, another named or other roots.
-fn differ(a: EventGraph, b: EventGraph) -> bool {
+pub fn differ(a: EventGraph, b: EventGraph) -> bool {
     if a.len() != b.len() {
         return true;
     }

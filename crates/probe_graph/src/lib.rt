@@ -1,4 +1,5 @@
 // The graph words of the line driver: each makes one call of `graph`. The tables are lent to each word, and changed in place.
+mod advances;
 mod asks;
 mod changes;
 mod frontiers;
@@ -50,6 +51,9 @@ pub fn answer(
     slots: &mut Slots,
     pasts: &mut Pasts,
 ) -> Logged {
+    if advances::is_word(line, kinds, values) {
+        return advances::answered(log, values, out, at, slots, pasts);
+    }
     let word = changes::word(line, kinds, values);
     if word == NO_ROW {
         return Logged {

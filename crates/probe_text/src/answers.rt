@@ -141,6 +141,15 @@ pub fn vector(out: &mut [u8], at: usize, row: &[usize], n: usize) -> usize {
     byte(out, at, b'\n')
 }
 
+// A whole line: 0, a frontier and a number.
+pub fn counted(out: &mut [u8], at: usize, f: CausalFrontier, count: usize) -> usize {
+    let entries = f.entries();
+    let at = bare(out, at, ACCEPTED);
+    let at = numbers(out, at, &entries, f.len());
+    let at = spaced(out, at, count);
+    byte(out, at, b'\n')
+}
+
 // A whole line: a refusal number, or 0 and a frontier.
 pub fn frontier(out: &mut [u8], at: usize, refusal: usize, f: CausalFrontier) -> usize {
     if refusal != ACCEPTED {

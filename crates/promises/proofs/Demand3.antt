@@ -5,13 +5,13 @@ use mathlib.Core.Path.{_≡_, sym, _∙_}
 use Prim.Native.Nat.{ℕ}
 use Rattle.graph.specs.Whole.{EventGraph}
 use Rattle.promises.specs.Reached.{Versions, Reached}
-use Rattle.promises.specs.Demand.{Note, Last, never, at, Start, fresh, checkpoint, Log, begin, append, flush, Among, SameNote, Demand3}
+use Rattle.promises.specs.Demand.{Note, Last, never, at, Start, fresh, checkpoint, Log, begin, append, flush, advance, Among, SameNote, Demand3}
 use Rattle.promises.proofs.ReachedLog.{reached-ok}
 use Rattle.promises.proofs.Matching.{Found}
 use Rattle.promises.proofs.Agreement.{agreement}
 use Rattle.promises.proofs.WhatIsHeld.{NoteAt, Contained, RootsAre, Holding, not-contained, start-holding}
 use Rattle.promises.proofs.HeldAppends.{append-holding}
-use Rattle.promises.proofs.HeldFlushes.{flush-holding}
+use Rattle.promises.proofs.HeldFlushes.{flush-holding, advance-holding}
 use Rattle.promises.specs.Reached as calls
 
 -- a start is reached, with no versions
@@ -74,6 +74,10 @@ what-is-held s (flush l f) =
     let w = what-is-held s l in
     let o = reached-ok (w .reached) in
     kept-so (calls.flush (w .reached) f) (flush-holding _ _ (w .versions) _ _ (o .graph) (o .notes) (w .holding) f)
+what-is-held {start = start} {ns = ns} s (advance {g = g} {last = last} l bound) =
+    let w = what-is-held s l in
+    let o = reached-ok (w .reached) in
+    kept-so (calls.advance (w .reached) bound) (advance-holding start g (w .versions) ns last o (w .holding) bound)
 
 pub demand3 : Demand3
 demand3 start g h ms ns last s x y same =

@@ -6,6 +6,7 @@ use mathlib.Core.Path.{_≡_, refl, ap}
 use Prim.Native.Nat.{ℕ, suc, _<_, _≤_}
 use native.Mathlib.Omega.{arith}
 use lib.Dec.{eqb}
+use lib.ListN.{take}
 use borrow.Author.Tests.{lt-ltb, ne-eqb}
 use Rattle.laws.specs.Counting.{pick, countBelow}
 use Rattle.laws.proofs.Orders.{true-or-false}
@@ -19,6 +20,7 @@ use Rattle.graph.specs.Whole.{EventGraph, Removed}
 use Rattle.graph.specs.Refusals.{covered}
 use Rattle.graph.specs.Cuts.{prefixFrontier, baseOf, isCritical, atBase}
 use Rattle.graph.specs.Removals.{kept, rootedAt, flushed}
+use Rattle.graph.specs.Advances.{advanced}
 use Rattle.graph.specs.Invariant.{GraphOk, NotesOk}
 use Rattle.graph.proofs.CoverLaws.{covered-elim}
 use Rattle.graph.proofs.FrontierLaws.{base-entry, prefix-base}
@@ -28,6 +30,8 @@ use Rattle.tables.proofs.ClosingLaws.{rank-count}
 use Rattle.graph.proofs.RemovalCases.{stays, stays-held, flush-cases}
 use Rattle.promises.specs.Reached.{Versions}
 use Rattle.promises.specs.Demand.{Note, Last, never, at}
+use Rattle.promises.proofs.LogOk.{LogOk}
+use Rattle.promises.proofs.AdvanceLog.{advance-documented}
 use Rattle.promises.proofs.WhatIsHeld.{NoteAt, Contained, RootsAre, Holding, note-moves}
 
 -- a critical frontier is nowhere below roots
@@ -96,3 +100,13 @@ module _ (start g : EventGraph) (W : Versions) (ns : List Note) (last : Last) (o
   -- refused or not
   pub flush-holding : (f : List ℕ) → Holding start (flushed g f .graph) W ns (pick (eqb (flushed g f .refusal) 0) (at f) last)
   flush-holding f = flush-cases (λ (x : Removed). Holding start (x .graph) W ns (pick (eqb (x .refusal) 0) (at f) last)) g f (rest-holding f) (λ n z. rw (ne-eqb n 0 z) held)
+
+-- an advance is a flush at the frontier that it finds
+pub advance-holding : (start g : EventGraph) (W : Versions) (ns : List Note) (last : Last) → LogOk g W → Holding start g W ns last → (bound : List ℕ)
+    → Holding start (advanced g bound .graph) W ns (pick (advanced g bound .found) (at (take (g .named .len) (advanced g bound .frontier .entries))) last)
+advance-holding start g W ns last ok held bound = ⊎-elim
+    (λ (t : advanced g bound .found ≡ true).
+    let f : List ℕ = take (g .named .len) (advanced g bound .frontier .entries) in
+    let h : Holding start (flushed g f .graph) W ns (pick (eqb (flushed g f .refusal) 0) (at f) last) = flush-holding start g W ns last (ok .graph) (ok .notes) held f in
+    rw t (rw (advance-documented g W ok bound .flush t) at h))
+    (λ (z : advanced g bound .found ≡ false). rw (z, advance-documented g W ok bound .none z .0) held) (true-or-false (advanced g bound .found))

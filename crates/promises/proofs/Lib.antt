@@ -3,6 +3,7 @@
 pub mod LogOk
 pub mod AppendLog
 pub mod RemainLog
+pub mod AdvanceLog
 pub mod ReachedLog
 pub mod Documented
 pub mod DocumentedFrontiers

@@ -6,10 +6,12 @@ use Prim.Native.Nat.{ℕ}
 use lib.ListN.{length}
 use denote.Ref.{now}
 use Rattle.graph.specs.Whole.{EventGraph, GraphAnswer, Removed, columns, answered, leaves}
+use Rattle.graph.specs.Advances.{Advanced, advances}
 use Rattle.graph.proofs.ColumnLaws.{slots-same}
 use Rattle.graph.specs.declared.EventGraph.{EventGraph as Small}
 use Rattle.graph.specs.declared.GraphAnswer.{GraphAnswer as SmallAnswer}
 use Rattle.graph.specs.declared.Removed.{Removed as SmallRemoved}
+use Rattle.graph.specs.declared.advance.Advanced.{Advanced as SmallAdvanced}
 use Rattle.graph.proofs.append.is_behind.Reads.{Post as is-behind}
 use Rattle.graph.proofs.append.empty_graph.Reads.{Post as empty-graph}
 use Rattle.graph.proofs.EventGraph.get.Reads.{Post as get}
@@ -34,6 +36,7 @@ use Rattle.graph.proofs.EventGraph.append.Reads.{Post as append}
 use Rattle.graph.proofs.EventGraph.remove.Reads.{Post as remove}
 use Rattle.graph.proofs.EventGraph.retain.Reads.{Post as retain}
 use Rattle.graph.proofs.EventGraph.prune_predecessors.Reads.{Post as prune-predecessors}
+use Rattle.graph.proofs.EventGraph.advance.Reads.{Post as advance}
 use Rattle.graph.proofs.EventGraph.clear.Reads.{Post as clear}
 use Rattle.promises.proofs.OneAnswer.{one-answer, writes-once, lists-if-once, Once, OnceWith}
 
@@ -62,6 +65,14 @@ removed-once : (x y : SmallRemoved) (slots slots′ : List (List ℕ)) (pasts pa
     → leaves x slots pasts ≡ leaves y slots′ pasts′ → (x ≡ y) × (slots ≡ slots′) × (pasts ≡ pasts′)
 removed-once x y slots slots′ pasts pasts′ l m e =
     (ap smallRemoved e, slots-same (x .graph) (y .graph) slots slots′ pasts pasts′ l m (ap (λ (a : Removed). a .graph) e), ap (λ (a : Removed). a .graph .pasts) e)
+
+abbrev smallAdvanced : Advanced → SmallAdvanced
+smallAdvanced a = record { refusal = a .refusal; found = a .found; frontier = a .frontier; count = a .count; graph = small (a .graph) }
+
+advanced-once : (x y : SmallAdvanced) (slots slots′ : List (List ℕ)) (pasts pasts′ : List ℕ) → length slots ≡ columns → length slots′ ≡ columns
+    → advances x slots pasts ≡ advances y slots′ pasts′ → (x ≡ y) × (slots ≡ slots′) × (pasts ≡ pasts′)
+advanced-once x y slots slots′ pasts pasts′ l m e =
+    (ap smallAdvanced e, slots-same (x .graph) (y .graph) slots slots′ pasts pasts′ l m (ap (λ (a : Advanced). a .graph) e), ap (λ (a : Advanced). a .graph .pasts) e)
 
 -- ---- helpers of append that are public
 
@@ -145,3 +156,6 @@ prune-predecessors-once κs a x y s t l m p q = removed-once x y _ _ _ _ l m (on
 
 pub clear-once : OnceTables clear (λ κs s. now (s .1 .0)) (λ κs s. now (s .1 .1 .0))
 clear-once κs a x y s t l m p q = removed-once x y _ _ _ _ l m (one-answer p q)
+
+pub advance-once : OnceTables advance (λ κs s. now (s .1 .1 .0)) (λ κs s. now (s .1 .1 .1 .0))
+advance-once κs a x y s t l m p q = advanced-once x y _ _ _ _ l m (one-answer p q)

@@ -14,7 +14,7 @@ use Rattle.clocks.proofs.Vectors.{well-formed-for}
 use Rattle.clocks.specs.Ids.{codeOf, decoded}
 use Rattle.graph.specs.Refusals.{refusalOf}
 use Rattle.graph.specs.Graphs.{pushed, appended, opAt, eventAt}
-use Rattle.graph.specs.Removals.{kept, cleared}
+use Rattle.graph.specs.Removals.{kept, flushed, cleared}
 use Rattle.graph.specs.Invariant.{GraphOk, NotesOk, codeAt}
 use Rattle.graph.proofs.DescentLaws.{accepted-facts}
 use Rattle.graph.proofs.AppendNotes.{push-one-more, older}
@@ -23,7 +23,7 @@ use Rattle.graph.proofs.RemainLaws.{was, was-held, stands}
 use Rattle.graph.proofs.RemovalCases.{picks, picks-held, stays, stays-held, remove-cases, retain-cases, flush-cases}
 use Rattle.listing.specs.Sheets.{idText, SmallTag, SmallId}
 use Rattle.listing.proofs.Telling.{text-tells-ids}
-use Rattle.promises.specs.Reached.{Versions, Reached, created, checkpointed, append, flush, remove, retain, clear}
+use Rattle.promises.specs.Reached.{Versions, Reached, created, checkpointed, append, flush, advance, remove, retain, clear}
 use Rattle.promises.specs.Printed.{PrintsApart, OfType}
 use Rattle.clocks.specs.declared.event.Event.{Event}
 use Rattle.clocks.specs.declared.id.Disambiguator.{Disambiguator}
@@ -33,6 +33,7 @@ use Rattle.clocks.specs.declared.tagged_op.TaggedOp.{TaggedOp}
 use Rattle.graph.specs.Whole.{EventGraph}
 use Rattle.graph.specs.declared.Found.the-variants.{Op, NotFound}
 use Rattle.graph.specs.Whole.{Removed}
+use Rattle.promises.proofs.AdvanceLog.{advance-is}
 use Rattle.promises.proofs.ReachedLog.{reached-ok, created-held, checkpointed-held}
 use Rattle.promises.proofs.Matching.{told}
 use Rattle.graph.specs.Graphs as graphs
@@ -74,11 +75,15 @@ Left x = Coded (x .graph)
 some-coded : (g : EventGraph) → GraphOk g → Coded g → (f : ℕ → Bool) → Coded (kept g (picks g f))
 some-coded g ok c f = kept-coded g (picks g f) ok (picks-held g f) c
 
+flush-coded : (g : EventGraph) (f : List ℕ) → GraphOk g → Coded g → Left (flushed g f)
+flush-coded g f ok c = flush-cases Left g f (λ w d. kept-coded g (stays g f) ok (stays-held g f) c) (λ n z. c)
+
 reached-coded : {g : EventGraph} {W : Versions} {accepted gone : ℕ} (p : Reached g W accepted gone) → OfType p → Coded g
 reached-coded (created r h) t = none-coded (graphs.created r .graph) (created-held r)
 reached-coded (checkpointed r v h) t = none-coded (graphs.checkpointed r v .graph) (checkpointed-held r v)
 reached-coded (append {g = g} p e v) t = append-coded g e v (reached-ok p .graph) (reached-ok p .notes) (t .0) (reached-coded p (t .1))
-reached-coded (flush {g = g} p f) t = flush-cases Left g f (λ w c. kept-coded g (stays g f) (reached-ok p .graph) (stays-held g f) (reached-coded p t)) (λ n z. reached-coded p t)
+reached-coded (flush {g = g} p f) t = flush-coded g f (reached-ok p .graph) (reached-coded p t)
+reached-coded (advance {g = g} {W = W} p bound) t = advance-is g W (reached-ok p) bound Left (λ f. flush-coded g f (reached-ok p .graph) (reached-coded p t)) (reached-coded p t)
 reached-coded (remove {g = g} p id) t = remove-cases Left g id (some-coded g (reached-ok p .graph) (reached-coded p t)) (reached-coded p t)
 reached-coded (retain {g = g} p mask) t = retain-cases Left g mask (some-coded g (reached-ok p .graph) (reached-coded p t)) (reached-coded p t)
 reached-coded (clear {g = g} p) t = none-coded (cleared g .graph) (clear-held g .0)

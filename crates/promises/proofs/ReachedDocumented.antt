@@ -10,6 +10,7 @@ use Rattle.promises.proofs.Documented.{past-exact, parent-exact, head-e
 use Rattle.promises.proofs.DocumentedFrontiers.{critical-documented, held-after, next-after, found-documented, answer-documented}
 use Rattle.promises.proofs.DocumentedVersions.{version-documented, prefix-documented}
 use Rattle.promises.proofs.DocumentedFlush.{flush-documented}
+use Rattle.promises.proofs.AdvanceLog.{advance-documented}
 use Rattle.promises.proofs.DocumentedAppend.{append-documented, one-revision}
 
 pub documented : (g : EventGraph) (W : Versions) → LogOk g W → Documented g W
@@ -26,6 +27,7 @@ documented g W ok = record {
   found = found-documented g W ok;
   answer = answer-documented g W ok;
   flush = flush-documented g W ok;
+  advance = advance-documented g W ok;
   append = append-documented g W ok;
   siblings = one-revision g (ok .notes);
   after = held-after g W ok;

@@ -1,12 +1,12 @@
 -- What the answers mean, in the words of the repository's comments and of document 01, each quoted: over positions and versions, not over what is stored
 -- of descent, parents, heads or cuts. The statement that it is so of a graph and its versions is `Documented`.
-use mathlib.Core.Bool.{true}
+use mathlib.Core.Bool.{true, false}
 use mathlib.Core.List.{List}
 use mathlib.Core.Logic.{_⊎_, _↔_}
 use mathlib.Core.Path.{_≡_}
 use Prim.Native.Nat.{ℕ, suc, _+_, _<_, _≤_}
 use Rattle.laws.specs.Counting.{pick}
-use lib.ListN.{getD}
+use lib.ListN.{take, getD}
 use Rattle.clocks.specs.Ids.{codeOf}
 use Rattle.clocks.specs.Vectors.{entry, wellFormed}
 use Rattle.positions.specs.Members.{has}
@@ -14,8 +14,9 @@ use Rattle.tables.specs.Slots.{descends}
 use Rattle.graph.specs.Whole.{EventGraph}
 use Rattle.graph.specs.Graphs.{placeOf, parents, heads, appended}
 use Rattle.graph.specs.Walks.{walkedParents, walkedHeads}
-use Rattle.graph.specs.Cuts.{isCritical, greatest}
-use Rattle.graph.specs.Removals.{flushed}
+use Rattle.graph.specs.Cuts.{isCritical, greatest, frontierFound}
+use Rattle.graph.specs.Removals.{removed, flushed}
+use Rattle.graph.specs.Advances.{advanced}
 use Rattle.graph.specs.Invariant.{replicaAt, seqAt, codeAt, revisionAt, Siblings}
 use Rattle.promises.specs.Reached.{Versions, versionAt}
 use Rattle.promises.specs.Demand.{SameNote}
@@ -104,6 +105,14 @@ pub record FlushedPrefix (g : EventGraph) (W : Versions) (v : List ℕ) : Type 0
   pub number : length + flushed g v .graph .held ≡ g .held
   pub stays : (k : ℕ) → k < flushed g v .graph .held → SameNote (flushed g v .graph) g k (length + k)
 
+-- document 02: "given a bound, flush to the greatest critical frontier inside it and answer frontier and count, or change nothing and answer none." What it
+-- finds is what `greatest` finds, and the flush there is not refused.
+pub record FlushesGreatest (g : EventGraph) (bound : List ℕ) : Type 0 where
+  pub finds : frontierFound (advanced g bound .refusal) (advanced g bound .found) (advanced g bound .frontier) ≡ greatest g bound
+  pub flush : advanced g bound .found ≡ true
+      → flushed g (take (g .named .len) (advanced g bound .frontier .entries)) ≡ removed 0 (advanced g bound .count) (advanced g bound .graph)
+  pub none : advanced g bound .found ≡ false → (advanced g bound .graph ≡ g) × (advanced g bound .count ≡ 0)
+
 -- slot k holds this event, all but its version
 pub record HoldsEvent (g : EventGraph) (k : ℕ) (e : Event) : Type 0 where
   pub replica : replicaAt g k ≡ e .id .idx .0
@@ -136,6 +145,7 @@ pub record Documented (g : EventGraph) (W : Versions) : Type 1 where
   pub answer : (bound : List ℕ) → wellFormed (g .named .len) bound ≡ true → greatest g bound .found ≡ true
       → (n : ℕ) × GreatestInside g W bound n × FrontierOf g n (greatest g bound .frontier .entries)
   pub flush : (v : List ℕ) → flushed g v .refusal ≡ 0 → FlushedPrefix g W v
+  pub advance : (bound : List ℕ) → FlushesGreatest g bound
   -- what is held is what was accepted
   pub append : (e : Event) (v : List ℕ) → appended g e v .refusal ≡ 0 → AppendedLast g e v
   -- document 02: "Siblings are pieces of one note and carry one revision."

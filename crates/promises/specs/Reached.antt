@@ -9,6 +9,7 @@ use Rattle.laws.specs.Counting.{pick, one}
 use Rattle.clocks.specs.Ids.{codeOf}
 use Rattle.graph.specs.Whole.{EventGraph}
 use Rattle.graph.specs.Removals.{flushed, withoutId, retained, cleared}
+use Rattle.graph.specs.Advances.{advanced}
 use Rattle.graph.specs.Invariant.{replicaAt, seqAt, codeAt}
 use Rattle.clocks.specs.declared.event.Event.{Event}
 use Rattle.clocks.specs.declared.id.EventId.{EventId}
@@ -38,6 +39,8 @@ pub data Reached : EventGraph → Versions → ℕ → ℕ → Type 0 where
       (accepted + one (eqb (graphs.appended g e v .refusal) 0)) gone
   flush : {g : EventGraph} {W : Versions} {accepted gone : ℕ} → Reached g W accepted gone → (f : List ℕ)
       → Reached (flushed g f .graph) W accepted (gone + flushed g f .count)
+  advance : {g : EventGraph} {W : Versions} {accepted gone : ℕ} → Reached g W accepted gone → (bound : List ℕ)
+      → Reached (advanced g bound .graph) W accepted (gone + advanced g bound .count)
   remove : {g : EventGraph} {W : Versions} {accepted gone : ℕ} → Reached g W accepted gone → (id : EventId)
       → Reached (withoutId g id .graph) W accepted (gone + withoutId g id .count)
   retain : {g : EventGraph} {W : Versions} {accepted gone : ℕ} → Reached g W accepted gone → (mask : List ℕ)

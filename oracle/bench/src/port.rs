@@ -54,6 +54,7 @@ shape! {
 shape! {
     ChangesAt(rows: *const usize, len: usize, n: usize, q: *const usize, ql: usize, m: usize, rounds: usize, slots: *mut usize, pasts: *mut u64)
     port_graph_flush
+    port_graph_advance
     port_graph_remove
 }
 shape! {

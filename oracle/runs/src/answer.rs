@@ -11,6 +11,8 @@ pub enum Answer {
     Word(&'static str),
     /// A vector, or none.
     Vector(Option<Vec<u64>>),
+    /// A frontier and how many events were flushed, or none.
+    Advanced(Option<(Vec<u64>, u64)>),
     /// A position, or none.
     Position(Option<u64>),
     /// An event without its version, or none.
@@ -58,9 +60,12 @@ impl Answer {
             Answer::YesNo(yes) => vec![u8::from(*yes).to_string()],
             Answer::Word(word) => vec![word.to_string()],
             Answer::Vector(Some(entries)) => numbers(entries),
+            Answer::Advanced(Some((frontier, count))) => numbers(&[&frontier[..], &[*count]].concat()),
             Answer::Position(Some(position)) => vec![position.to_string()],
             Answer::Event(Some(event)) => vec![event_text(event)],
-            Answer::Vector(None) | Answer::Position(None) | Answer::Event(None) => vec!["-".to_string()],
+            Answer::Vector(None) | Answer::Advanced(None) | Answer::Position(None) | Answer::Event(None) => {
+                vec!["-".to_string()]
+            }
             Answer::Events(list) => list.iter().map(event_text).collect(),
             Answer::Ids(list) => list.iter().map(id_text).collect(),
             Answer::Lengths(list) => numbers(list),

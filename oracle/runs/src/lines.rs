@@ -67,6 +67,7 @@ pub enum Call {
     Heads,
     Cuts,
     Order(Id),
+    Advance(Vector),
     Version(Id),
     LastVersion(u64),
     Previous(Id, u64),
@@ -83,7 +84,7 @@ impl Call {
         use Call::*;
         matches!(
             self,
-            New(_) | From(..) | Append(_) | Prune(_) | Remove(_) | Retain(_) | Clear
+            New(_) | From(..) | Append(_) | Advance(_) | Prune(_) | Remove(_) | Retain(_) | Clear
         )
     }
 }
@@ -227,6 +228,7 @@ fn graph(word: &str, words: &mut Words) -> Option<Call> {
         "heads" => Heads,
         "cuts" => Cuts,
         "order" => Order(words.id()?),
+        "advance" => Advance(words.vector()?),
         "flush" => Prune(words.vector()?),
         _ => return both(word, words),
     })

@@ -112,16 +112,18 @@ fn answer(desk: &mut Option<Desk>, line: &str, out: &mut impl Write) -> Option<i
     }
     let frontier = frontier(&desk.names, &numbers(tokens)?);
     Some(match word {
-        "greatest" => match desk.log.greatest_critical_frontier(&frontier) {
+        "greatest" | "advance" => match desk.log.greatest_critical_frontier(&frontier) {
             None => writeln!(out, "0 -"),
             Some(found) => {
                 write!(out, "0").ok()?;
                 found.iter().for_each(|(_, entry)| write!(out, " {entry}").unwrap());
+                if word == "advance" {
+                    write!(out, " {}", desk.removed(|log| log.prune_predecessors(&found))).ok()?;
+                }
                 writeln!(out)
             }
         },
         "check" => writeln!(out, "0 {}", desk.log.is_critical(&frontier) as u8),
-        "flush" => writeln!(out, "0 {}", desk.removed(|log| log.prune_predecessors(&frontier))),
         _ => return None,
     })
 }

@@ -1,5 +1,5 @@
 //! `desk_lines COUNT SEED`: a script for the listing program that the original can answer too: gossip among 16 desks, with questions between the notes,
-//! and every 240 notes a note that has heard of all, at which the log is flushed.
+//! and every 240 notes a note that has heard of all, at which the log advances.
 
 use std::{
     env,
@@ -60,7 +60,7 @@ fn main() -> io::Result<()> {
         if whole {
             clocks = [version; DESKS];
             if lines < count {
-                writeln!(out, "flush {}", listed(&version))?;
+                writeln!(out, "advance {}", listed(&version))?;
                 lines += 1;
             }
         }

@@ -3,7 +3,7 @@ use mathlib.Core.Path.{refl}
 use borrow.Author.Needs.{needs}
 use Rattle.listing.specs.Commands.{byWord, replicasLine, removeLine, sheetLine, vectorLine, appendLine}
 use Rattle.listing.specs.Words.{bytes, sameBytes}
-use Rattle.listing.specs.declared.command.Command.the-variants.{Greatest, Check, Flush}
+use Rattle.listing.specs.declared.command.Command.the-variants.{Greatest, Check, Advance}
 use Rattle.listing.proofs.Wording.{unmet, by-this, tells-none, replicas-none, remove-none, sheet-none}
 use Rattle.listing.proofs.command.by_word.Statement.{statement}
 use Rattle.listing.proofs.command.by_word.Tie as tie
@@ -75,15 +75,15 @@ slice-aggregate-same-5 c = search needs
 same-requires-5 : tie.Need-same-requires-5
 same-requires-5 c κs = search needs
 
-flush-line-requires : tie.Need-flush-line-requires
-flush-line-requires c κs = search needs
+advance-line-requires : tie.Need-advance-line-requires
+advance-line-requires c κs = search needs
 
 same-length-4 : tie.Need-same-length-4
 same-length-4 c = search needs
 
 returns-5 : tie.Need-returns-5
 unfolding byWord sameBytes bytes
-returns-5 c = by-this (vectorLine Flush) _ _ (c .before .before .before .before .before .same5 .ensures) (c .before .before .before .before .if5 .taken) refl (c .before .before .flush-line .ensures)
+returns-5 c = by-this (vectorLine Advance) _ _ (c .before .before .before .before .before .same5 .ensures) (c .before .before .before .before .if5 .taken) refl (c .before .before .advance-line .ensures)
 
 slice-aggregate-same-6 : tie.Need-slice-aggregate-same-6
 slice-aggregate-same-6 c = search needs
@@ -119,7 +119,7 @@ returns-8 c = let x = c .before .before .before .before .before .before .before 
       unmet x (bytes "append") (c .before .before .before .before .before .before .before .before .before .before .before .before .before .before .before .before .same2 .ensures) (c .before .before .before .before .before .before .before .before .before .before .before .before .before .before .before .if2 .left),
       unmet x (bytes "greatest") (c .before .before .before .before .before .before .before .before .before .before .before .before .before .same3 .ensures) (c .before .before .before .before .before .before .before .before .before .before .before .before .if3 .left),
       unmet x (bytes "check") (c .before .before .before .before .before .before .before .before .before .before .same4 .ensures) (c .before .before .before .before .before .before .before .before .before .if4 .left),
-      unmet x (bytes "flush") (c .before .before .before .before .before .before .before .same5 .ensures) (c .before .before .before .before .before .before .if5 .left),
+      unmet x (bytes "advance") (c .before .before .before .before .before .before .before .same5 .ensures) (c .before .before .before .before .before .before .if5 .left),
       unmet x (bytes "remove") (c .before .before .before .before .same6 .ensures) (c .before .before .before .if6 .left),
       unmet x (bytes "sheet") (c .before .same7 .ensures) (c .if7 .left),
     ) (record { command = refl; content = refl })
@@ -149,7 +149,7 @@ by-word-spec =
     returns-4
     slice-aggregate-same-5
     same-requires-5
-    flush-line-requires
+    advance-line-requires
     same-length-4
     returns-5
     slice-aggregate-same-6

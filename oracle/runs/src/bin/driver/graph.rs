@@ -4,7 +4,6 @@ use std::collections::HashMap;
 
 use moirai_protocol::{
     broadcast::internalizer::Resolver,
-    clock::causal_frontier::CausalFrontier,
     replica::ReplicaIdx,
     state::unstable_state::{
         IsUnstableCausal, IsUnstableCore, IsUnstableDelivery, IsUnstablePrune, event_graph::EventGraph,
@@ -84,7 +83,7 @@ impl Graph {
                 Reply::Skip(format!("named {}", named.join(" ")))
             }
             Call::Greatest(v) => {
-                let greatest: Option<CausalFrontier> = self.log.greatest_critical_frontier(&frontier(v));
+                let greatest = self.log.greatest_critical_frontier(&frontier(v));
                 Answer::Vector(greatest.as_ref().map(entries_of_frontier)).into()
             }
             Call::IsCritical(v) => Answer::YesNo(self.log.is_critical(&frontier(v))).into(),
@@ -105,17 +104,25 @@ impl Graph {
             }
             Call::Prune(v) => {
                 let frontier = frontier(v);
-                self.removing(|log, _| log.prune_predecessors(&frontier))
+                Answer::Number(self.removed(|log, _| log.prune_predecessors(&frontier))).into()
             }
-            Call::Remove(id) => self.removing(|log, names| log.remove(&event_id(names, id))),
+            Call::Advance(v) => {
+                let greatest = self.log.greatest_critical_frontier(&frontier(v));
+                let flushed = greatest.map(|f| {
+                    let count = self.removed(|log, _| log.prune_predecessors(&f));
+                    (entries_of_frontier(&f), count)
+                });
+                Answer::Advanced(flushed).into()
+            }
+            Call::Remove(id) => Answer::Number(self.removed(|log, names| log.remove(&event_id(names, id)))).into(),
             Call::Retain(mask) => {
                 let held = self.log.iter().map(|event| id_of(event.id()));
                 let keep: HashMap<Id, u8> = held.zip(mask.iter().copied()).collect();
-                self.removing(|log, _| log.retain(|event| keep[&id_of(event.id())] == 1))
+                Answer::Number(self.removed(|log, _| log.retain(|event| keep[&id_of(event.id())] == 1))).into()
             }
             Call::Clear => {
                 self.named.fill(0);
-                self.removing(|log, _| log.clear())
+                Answer::Number(self.removed(|log, _| log.clear())).into()
             }
             Call::New(_) | Call::From(..) => unreachable!(),
             Call::Version(_) | Call::LastVersion(_) | Call::Previous(..) | Call::Next(..) | Call::Newly(_) => {
@@ -128,17 +135,18 @@ impl Graph {
     pub fn refusal(&self, call: &Call) -> Option<u64> {
         match call {
             Call::Append(event) => bad_event(self.replicas, event),
-            Call::Predecessors(v) | Call::Concurrent(v) | Call::Greatest(v) | Call::IsCritical(v) | Call::Prune(v) => {
+            Call::Predecessors(v) | Call::Concurrent(v) | Call::Greatest(v) => {
                 bad_vector(self.replicas, v).then_some(3)
             }
+            Call::IsCritical(v) | Call::Advance(v) | Call::Prune(v) => bad_vector(self.replicas, v).then_some(3),
             Call::Retain(mask) => (mask.len() != self.log.len() || mask.iter().any(|&keep| keep > 1)).then_some(15),
             _ => None,
         }
     }
 
-    fn removing(&mut self, change: impl FnOnce(&mut EventGraph<Operation>, &Resolver)) -> Reply {
+    fn removed(&mut self, change: impl FnOnce(&mut EventGraph<Operation>, &Resolver)) -> u64 {
         let before = self.log.len();
         change(&mut self.log, &self.names);
-        Answer::Number((before - self.log.len()) as u64).into()
+        (before - self.log.len()) as u64
     }
 }

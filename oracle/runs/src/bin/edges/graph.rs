@@ -35,7 +35,15 @@ fn creations(lines: &mut Vec<String>) {
         for v in vectors(replicas).iter().map(|v| spaced(v)) {
             lines.push(format!("g.from {replicas} {v}"));
             lines.extend(
-                ["greatest", "is-critical", "flush", "predecessors", "concurrent"].map(|word| format!("g.{word} {v}")),
+                [
+                    "greatest",
+                    "is-critical",
+                    "advance",
+                    "flush",
+                    "predecessors",
+                    "concurrent",
+                ]
+                .map(|word| format!("g.{word} {v}")),
             );
             look(lines);
         }
@@ -89,7 +97,7 @@ fn refusals(lines: &mut Vec<String>) {
         (1, ""),
         (3, ""),
         (4, ""),
-        (4, "g.flush 1 0 0"),
+        (4, "g.advance 1 1 0"),
         (4, "g.flush 1 1 1"),
         (4, "g.flush 2 1 1"),
     ] {
@@ -208,6 +216,7 @@ fn full(filler: fn(u64) -> String, lines: &mut Vec<String>) {
         format!("g.greatest {top}"),
         format!("g.flush {top}"),
         format!("g.flush {zeros}"),
+        format!("g.advance {zeros}"),
     ]);
     for length in [0, 255, 257, 2043] {
         lines.push(numbers_line("g.retain", &vec![1; length]));
@@ -220,6 +229,8 @@ fn full(filler: fn(u64) -> String, lines: &mut Vec<String>) {
     let every_third: Vec<u64> = (0..256).map(|i| u64::from(i % 3 > 0)).collect();
     lines.push(numbers_line("g.retain", &every_third));
     lines.extend((256..270).map(|i| format!("g.append {}", filler(i))));
+    look(lines);
+    lines.push(format!("g.advance {top}"));
     look(lines);
     lines.extend(["g.clear", "g.clear"].map(str::to_string));
     look(lines);

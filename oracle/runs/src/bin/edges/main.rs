@@ -13,7 +13,7 @@ use runs::{
 };
 
 /// A good line of every word but the creations and `room`.
-const BEFORE: [&str; 48] = [
+const BEFORE: [&str; 49] = [
     "c.entry 0 1",
     "c.set 0 1 1",
     "c.join 1 | 1",
@@ -41,6 +41,7 @@ const BEFORE: [&str; 48] = [
     "g.heads",
     "g.cuts",
     "g.order 0 1 -",
+    "g.advance 1",
     "g.flush 1",
     "g.remove 0 1 -",
     "g.retain 1",

@@ -2,7 +2,7 @@
 
 use runs::{
     answer::Answer,
-    lines::Event,
+    lines::{Event, Vector},
     model::Probe,
     text::{event_words, id_words, spaced, up_to},
 };
@@ -45,6 +45,7 @@ pub fn ask(replicas: usize, log: &[Event], lines: &mut Vec<String>) {
         }
         lines.extend([format!("g.greatest {}", spaced(bound)), question]);
     }
+    let tops = spaced(bounds.last().unwrap());
     for (i, frontier) in critical.into_iter().enumerate() {
         // The first flush is of the graph that stands.
         if i > 0 {
@@ -52,8 +53,15 @@ pub fn ask(replicas: usize, log: &[Event], lines: &mut Vec<String>) {
         }
         lines.push(format!("g.flush {}", spaced(frontier)));
         look(log, lines);
-        lines.push("g.roots".to_string());
-        lines.push(format!("g.greatest {}", spaced(bounds.last().unwrap())));
+        lines.extend(["g.roots".to_string(), format!("g.greatest {tops}")]);
+        lines.extend([format!("g.advance {tops}"), "g.iter".to_string()]);
+    }
+    let graph = probe.graph.unwrap();
+    let inside = |bound: &&Vector| graph.greatest(bound).is_some_and(|frontier| frontier != **bound);
+    if let Some(bound) = bounds.iter().find(inside) {
+        bring(replicas, log, lines);
+        lines.push(format!("g.advance {}", spaced(bound)));
+        look(log, lines);
     }
 }
 

@@ -63,9 +63,20 @@ impl Making {
         self.log.accepted.push(event.id);
     }
 
-    fn flush(&mut self, frontier: &Vector) {
-        let answer = self.say(format!("g.flush {}", spaced(frontier)));
-        assert!(matches!(answer, Answer::Number(_)), "a critical frontier is refused");
+    /// A flush at the frontier, or an advance that ends there.
+    fn flush(&mut self, random: &mut Random, notes: &Notes, frontier: &Vector) {
+        let all: Vec<&Event> = notes.all().collect();
+        let beyond = join(frontier, &random.pick(&all).version);
+        let ends_there = |bound: &&Vector| self.graph().greatest(bound).as_ref() == Some(frontier);
+        let line = match [&beyond, frontier].into_iter().find(ends_there) {
+            Some(bound) if random.chance(40) => format!("g.advance {}", spaced(bound)),
+            _ => format!("g.flush {}", spaced(frontier)),
+        };
+        self.say(line);
+        assert!(
+            self.graph().roots.as_ref() == Some(frontier),
+            "a critical frontier is refused"
+        );
         self.log.flushed.push((frontier.clone(), self.log.accepted.len()));
     }
 
@@ -77,7 +88,7 @@ impl Making {
         frontiers.filter(|f| at_or_above(last, f) && heard(f)).collect()
     }
 
-    /// A refused line, which changes nothing: a note at a wrong moment, or a flush at no critical frontier.
+    /// A line that changes nothing: a note at a wrong moment, a flush at no critical frontier, an advance to none.
     fn disturb(&mut self, random: &mut Random, notes: &Notes, last: Option<&Vector>) {
         let all: Vec<&Event> = notes.all().collect();
         let mut event = (*random.pick(&all)).clone();
@@ -88,6 +99,9 @@ impl Making {
         let frontier = last.cloned().unwrap_or(event.version);
         if !self.graph().is_critical(&frontier) {
             self.say(format!("g.flush {}", spaced(&frontier)));
+        }
+        if self.graph().greatest(&frontier).is_none() {
+            self.say(format!("g.advance {}", spaced(&frontier)));
         }
     }
 }
@@ -120,12 +134,12 @@ fn log(random: &mut Random, notes: &Notes, last: Option<&Vector>) -> Log {
         let frontiers = making.may_flush(last, &to_come);
         if !frontiers.is_empty() {
             let frontier = random.pick(&frontiers).clone();
-            making.flush(&frontier);
+            making.flush(random, notes, &frontier);
             at_last = frontier == *last;
         }
     }
     if let Some(last) = last.filter(|_| !at_last) {
-        making.flush(last);
+        making.flush(random, notes, last);
     }
     making.log
 }

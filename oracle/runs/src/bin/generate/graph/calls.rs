@@ -1,6 +1,6 @@
 //! What a story asks of the log, and how it makes it smaller.
 
-use runs::{answer::Answer, lines::Id};
+use runs::lines::Id;
 
 use super::GraphStory;
 use crate::{Page, values::*};
@@ -104,7 +104,8 @@ impl GraphStory {
 
     pub fn prune(&mut self, page: &mut Page) {
         let line = match page.random.below(20) {
-            0..=6 => {
+            0..=3 => format!("g.advance {}", spaced(&self.vector(page))),
+            4..=7 => {
                 let bound = self.vector(page);
                 let graph = page.probe.graph.as_ref().unwrap();
                 match graph.greatest(&bound) {
@@ -112,7 +113,7 @@ impl GraphStory {
                     None => format!("g.flush {}", spaced(&bound)),
                 }
             }
-            7..=9 => format!("g.flush {}", spaced(&self.vector(page))),
+            8..=9 => format!("g.flush {}", spaced(&self.vector(page))),
             10..=13 => format!("g.remove {}", id_words(&self.id(page))),
             14..=15 => match page.probe.graph.as_ref().unwrap().held.last() {
                 Some(last) => format!("g.remove {}", id_words(&last.id)),
@@ -129,12 +130,14 @@ impl GraphStory {
             _ if page.random.chance(30) => "g.clear".to_string(),
             _ => "g.cuts".to_string(),
         };
-        let flush = line.starts_with("g.flush");
-        let answer = page.say(line);
+        let roots = |page: &Page| page.probe.graph.as_ref().and_then(|graph| graph.roots.clone());
+        let before = roots(page);
+        page.say(line);
         // Desks that do not hear of a flush write events that are Behind.
-        if flush && matches!(answer, Answer::Number(_)) && page.random.chance(75) {
-            let roots = page.probe.graph.as_ref().and_then(|graph| graph.roots.clone());
-            self.desks.all_hear(&roots.unwrap_or_default());
+        if let Some(flushed) = roots(page).filter(|after| before.as_ref() != Some(after))
+            && page.random.chance(75)
+        {
+            self.desks.all_hear(&flushed);
         }
     }
 }

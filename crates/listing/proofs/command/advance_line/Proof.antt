@@ -2,8 +2,8 @@
 use mathlib.Core.Path.{sym, _∙_}
 use borrow.Author.Needs.{needs}
 use Rattle.listing.specs.Commands.{vectorLine}
-use Rattle.listing.proofs.command.flush_line.Statement.{statement}
-use Rattle.listing.proofs.command.flush_line.Tie as tie
+use Rattle.listing.proofs.command.advance_line.Statement.{statement}
+use Rattle.listing.proofs.command.advance_line.Tie as tie
 
 read-vector-requires : tie.Need-read-vector-requires
 read-vector-requires c κs = search needs
@@ -28,8 +28,8 @@ returns-2 : tie.Need-returns-2
 unfolding vectorLine
 returns-2 c = let e = c .before .before .before .before .before .read-vector .ensures in record { command = rw (sym (e .0) ∙ c .before .v .given .1); content = e .1 }
 
-pub flush-line-spec : {M : Type 1} → statement M
-flush-line-spec =
+pub advance-line-spec : {M : Type 1} → statement M
+advance-line-spec =
     tie.close
     (tie.spec
     read-vector-requires
