@@ -9,6 +9,7 @@ pub mod DocumentedFrontiers
 pub mod DocumentedVersions
 pub mod DocumentedFlush
 pub mod ReachedDocumented
+pub mod WhyDocumented
 pub mod Pigeonhole
 pub mod Matching
 pub mod AgreeCuts
@@ -26,4 +27,5 @@ pub mod OneAnswerClocks
 pub mod OneAnswerPositions
 pub mod OneAnswerHistory
 pub mod OneAnswerGraph
+pub mod OneAnswerWhy
 pub mod OneAnswerTables
