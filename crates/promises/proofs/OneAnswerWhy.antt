@@ -4,9 +4,9 @@ use mathlib.Core.Path.{_≡_}
 use Prim.Native.Nat.{ℕ}
 use denote.Ref.{now}
 use Rattle.graph.specs.Whys.{WritesList}
-use Rattle.clocks.specs.declared.refusal.Listed.{Listed}
 use Rattle.graph.proofs.EventGraph.why.Reads.{Post as why}
 use Rattle.graph.proofs.EventGraph.chain.Reads.{Post as chain}
+use Rattle.clocks.specs.declared.refusal.Listed.{Listed}
 use Rattle.promises.proofs.OneAnswer.{one-answer, Once, OnceWith}
 
 -- a list that is written, with the buffer

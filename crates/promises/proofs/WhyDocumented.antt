@@ -2,7 +2,7 @@
 use mathlib.Core.Bool.{true, false≢true}
 use mathlib.Core.Logic.{⊎-elim, _↔_}
 use mathlib.Core.Path.{_≡_, sym, _∙_}
-use Prim.Native.Nat.{ℕ, suc, _-_, _<_, _≤_}
+use Prim.Native.Nat.{ℕ, suc, _-_, _≤_}
 use native.Mathlib.Omega.{arith}
 use Rattle.laws.proofs.Orders.{is-false}
 use Rattle.positions.specs.Members.{has}
@@ -61,8 +61,8 @@ module _ (g : EventGraph) (W : Versions) (ok : LogOk g W) where
   pair-given n some most = (there, back)
     where
       there : (IsCut g W n → ⊥) → (a : ℕ) × (b : ℕ) × (whyOf g n ≡ Lacks (record { 0 = a }) (record { 0 = b }))
-      there no = ⊎-elim
-          (λ (c : (whyOf g n ≡ Cut) × (has (g .cuts) (n - 1) ≡ true)). absurd (no (why-is-cut n .0 (c .0))))
+      there h = ⊎-elim
+          (λ (c : (whyOf g n ≡ Cut) × (has (g .cuts) (n - 1) ≡ true)). absurd (h (why-is-cut n .0 (c .0))))
           (λ (p : (a : ℕ) × (b : ℕ) × (whyOf g n ≡ Lacks (record { 0 = a }) (record { 0 = b })) × Shows g n a b). (p .0, p .1, p .2)) (why-cases g (ok .graph) n some most)
 
       back : (a : ℕ) × (b : ℕ) × (whyOf g n ≡ Lacks (record { 0 = a }) (record { 0 = b })) → IsCut g W n → ⊥
