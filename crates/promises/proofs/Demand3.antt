@@ -74,6 +74,7 @@ what-is-held s (flush l f) =
     let w = what-is-held s l in
     let o = reached-ok (w .reached) in
     kept-so (calls.flush (w .reached) f) (flush-holding _ _ (w .versions) _ _ (o .graph) (o .notes) (w .holding) f)
+
 what-is-held {start = start} {ns = ns} s (advance {g = g} {last = last} l bound) =
     let w = what-is-held s l in
     let o = reached-ok (w .reached) in
