@@ -83,10 +83,11 @@ pub extern "C" fn port_graph_flush(
 
 fn advanced(g: EventGraph, note: &[usize], slots: &mut Slots, pasts: &mut Pasts) -> Removed {
     let a = g.advance(version(note), slots, pasts);
+    let graph = a.graph;
     Removed {
         refusal: a.refusal,
         count: a.count,
-        graph: a.graph,
+        graph,
     }
 }
 

@@ -29,6 +29,17 @@ struct Reading {
     ended: bool,
 }
 
+// Before the first read.
+fn unread() -> Reading {
+    Reading {
+        at: 0,
+        end: 0,
+        held: text::lines::fresh(),
+        whole: false,
+        ended: false,
+    }
+}
+
 // Writes what is collected.
 fn flush(out: &[u8], at: usize) {
     if at <= out.len() {
@@ -133,13 +144,7 @@ fn run(
     pasts: &mut Pasts,
 ) {
     let mut st = State::new();
-    let mut r = Reading {
-        at: 0,
-        end: 0,
-        held: text::lines::fresh(),
-        whole: false,
-        ended: false,
-    };
+    let mut r = unread();
     let mut turns = u64::MAX;
     while 0 < turns {
         st = st.moved(written(r, out, st.at));

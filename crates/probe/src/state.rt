@@ -125,6 +125,65 @@ pub fn answer(
     )
 }
 
+// A word of the clocks.
+fn clock_word(
+    st: State,
+    line: &[u8],
+    kinds: &[u8],
+    values: &[usize],
+    out: &mut [u8; 65_536],
+) -> State {
+    st.clocked(probe_clocks::answer(st.replicas, st.room, line, kinds, values, out, st.at))
+}
+
+// A word of the graph, which is lent its tables.
+fn graph_word(
+    st: State,
+    line: &[u8],
+    kinds: &[u8],
+    values: &[usize],
+    out: &mut [u8; 65_536],
+    slots: &mut Slots,
+    pasts: &mut Pasts,
+) -> State {
+    st.logged(probe_graph::answer(
+        st.log,
+        st.room,
+        line,
+        kinds,
+        values,
+        out,
+        st.at,
+        slots,
+        pasts,
+    ))
+}
+
+// A word of the history, which is lent its tables.
+fn history_word(
+    st: State,
+    line: &[u8],
+    kinds: &[u8],
+    values: &[usize],
+    out: &mut [u8; 65_536],
+    versions: &mut [Seq; 8192],
+    notes: &mut [u64; 2048],
+    boundaries: &mut [Seq; 256],
+) -> State {
+    st.traced(probe_history::answer(
+        st.traces,
+        st.room,
+        line,
+        kinds,
+        values,
+        out,
+        st.at,
+        versions,
+        notes,
+        boundaries,
+    ))
+}
+
 fn by_word(
     st: State,
     line: &[u8],
@@ -138,38 +197,9 @@ fn by_word(
     pasts: &mut Pasts,
 ) -> State {
     match byte_at(line, 0) {
-        b'c' => st.clocked(probe_clocks::answer(
-            st.replicas,
-            st.room,
-            line,
-            kinds,
-            values,
-            out,
-            st.at,
-        )),
-        b'g' => st.logged(probe_graph::answer(
-            st.log,
-            st.room,
-            line,
-            kinds,
-            values,
-            out,
-            st.at,
-            slots,
-            pasts,
-        )),
-        b'h' => st.traced(probe_history::answer(
-            st.traces,
-            st.room,
-            line,
-            kinds,
-            values,
-            out,
-            st.at,
-            versions,
-            notes,
-            boundaries,
-        )),
+        b'c' => clock_word(st, line, kinds, values, out),
+        b'g' => graph_word(st, line, kinds, values, out, slots, pasts),
+        b'h' => history_word(st, line, kinds, values, out, versions, notes, boundaries),
         _ => room(st, line, kinds, values, out),
     }
 }

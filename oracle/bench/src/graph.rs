@@ -9,28 +9,10 @@ use moirai_protocol::state::unstable_state::{
 use crate::{
     clock::{Row, asked, copy_of, per_round},
     notes,
-    port::Port,
+    port::*,
 };
 
 const HELD: usize = 256;
-
-unsafe extern "C" {
-    fn port_graph_append(rows: *const usize, len: usize, n: usize, rounds: usize, slots: *mut usize, pasts: *mut u64) -> usize;
-    fn port_graph_copies(rows: *const usize, len: usize, n: usize, rounds: usize, slots: *mut usize, pasts: *mut u64) -> usize;
-    fn port_graph_greatest(rows: *const usize, len: usize, n: usize, q: *const usize, ql: usize, m: usize, rounds: usize) -> usize;
-    fn port_graph_is_critical(rows: *const usize, len: usize, n: usize, q: *const usize, ql: usize, m: usize, rounds: usize) -> usize;
-    fn port_graph_predecessors(rows: *const usize, len: usize, n: usize, q: *const usize, ql: usize, m: usize, rounds: usize, out: *mut usize, ol: usize) -> usize;
-    fn port_graph_concurrent(rows: *const usize, len: usize, n: usize, q: *const usize, ql: usize, m: usize, rounds: usize, out: *mut usize, ol: usize) -> usize;
-    fn port_graph_frontier(rows: *const usize, len: usize, n: usize, rounds: usize, out: *mut usize, ol: usize) -> usize;
-    fn port_graph_direct_predecessors(rows: *const usize, len: usize, n: usize, q: *const usize, ql: usize, m: usize, rounds: usize, out: *mut usize, ol: usize) -> usize;
-    fn port_graph_get(rows: *const usize, len: usize, n: usize, q: *const usize, ql: usize, m: usize, rounds: usize) -> usize;
-    fn port_graph_delivery_order(rows: *const usize, len: usize, n: usize, q: *const usize, ql: usize, m: usize, rounds: usize) -> usize;
-    fn port_graph_roots(rows: *const usize, len: usize, n: usize, rounds: usize) -> usize;
-    fn port_graph_flush(rows: *const usize, len: usize, n: usize, q: *const usize, ql: usize, m: usize, rounds: usize, slots: *mut usize, pasts: *mut u64) -> usize;
-    fn port_graph_advance(rows: *const usize, len: usize, n: usize, q: *const usize, ql: usize, m: usize, rounds: usize, slots: *mut usize, pasts: *mut u64) -> usize;
-    fn port_graph_remove(rows: *const usize, len: usize, n: usize, q: *const usize, ql: usize, m: usize, rounds: usize, slots: *mut usize, pasts: *mut u64) -> usize;
-    fn port_graph_retain(rows: *const usize, len: usize, n: usize, mask: *const u8, ml: usize, rounds: usize, slots: *mut usize, pasts: *mut u64) -> usize;
-}
 
 pub fn measure() -> Vec<Row> {
     let history = notes::gossip(HELD, 7, false);

@@ -10,23 +10,10 @@ use moirai_protocol::{
 use crate::{
     clock::{Row, asked, copy_of, in_turn, per_round},
     notes,
-    port::Port,
+    port::*,
 };
 
 const HELD: usize = 512;
-
-unsafe extern "C" {
-    fn port_history_append(rows: *const usize, len: usize, n: usize, rounds: usize) -> usize;
-    fn port_history_get(rows: *const usize, len: usize, n: usize, q: *const usize, ql: usize, m: usize, rounds: usize) -> usize;
-    fn port_history_version(rows: *const usize, len: usize, n: usize, q: *const usize, ql: usize, m: usize, rounds: usize) -> usize;
-    fn port_history_previous(rows: *const usize, len: usize, n: usize, q: *const usize, ql: usize, m: usize, rounds: usize) -> usize;
-    fn port_history_next(rows: *const usize, len: usize, n: usize, q: *const usize, ql: usize, m: usize, rounds: usize) -> usize;
-    fn port_history_predecessors(rows: *const usize, len: usize, n: usize, q: *const usize, ql: usize, m: usize, rounds: usize, out: *mut usize, ol: usize) -> usize;
-    fn port_history_concurrent(rows: *const usize, len: usize, n: usize, q: *const usize, ql: usize, m: usize, rounds: usize, out: *mut usize, ol: usize) -> usize;
-    fn port_history_iter(rows: *const usize, len: usize, n: usize, rounds: usize, out: *mut usize, ol: usize) -> usize;
-    fn port_history_replica_events(rows: *const usize, len: usize, n: usize, q: *const usize, ql: usize, m: usize, rounds: usize, out: *mut usize, ol: usize) -> usize;
-    fn port_history_newly(rows: *const usize, len: usize, n: usize, q: *const usize, ql: usize, m: usize, rounds: usize, out: *mut usize, ol: usize) -> usize;
-}
 
 pub fn measure() -> Vec<Row> {
     let history = notes::gossip(HELD, 11, true);

@@ -4,44 +4,63 @@ use std::{cell::RefCell, hint::black_box};
 
 use crate::clock::per_round;
 
-// A slice goes over as its start and its length.
-pub type Alone = unsafe extern "C" fn(rows: *const usize, len: usize, n: usize, rounds: usize) -> usize;
-pub type Asks = unsafe extern "C" fn(rows: *const usize, len: usize, n: usize, q: *const usize, ql: usize, m: usize, rounds: usize) -> usize;
-pub type Lists = unsafe extern "C" fn(
-    rows: *const usize,
-    len: usize,
-    n: usize,
-    q: *const usize,
-    ql: usize,
-    m: usize,
-    rounds: usize,
-    out: *mut usize,
-    ol: usize,
-) -> usize;
-pub type ListsAll = unsafe extern "C" fn(rows: *const usize, len: usize, n: usize, rounds: usize, out: *mut usize, ol: usize) -> usize;
-// A change is lent the graph's tables, which go over as their starts.
-pub type Changes = unsafe extern "C" fn(rows: *const usize, len: usize, n: usize, rounds: usize, slots: *mut usize, pasts: *mut u64) -> usize;
-pub type ChangesAt = unsafe extern "C" fn(
-    rows: *const usize,
-    len: usize,
-    n: usize,
-    q: *const usize,
-    ql: usize,
-    m: usize,
-    rounds: usize,
-    slots: *mut usize,
-    pasts: *mut u64,
-) -> usize;
-pub type Masks = unsafe extern "C" fn(
-    rows: *const usize,
-    len: usize,
-    n: usize,
-    mask: *const u8,
-    ml: usize,
-    rounds: usize,
-    slots: *mut usize,
-    pasts: *mut u64,
-) -> usize;
+/// A shape of call, and the port's functions of that shape. A slice goes over as its start and its length, a table as its start.
+macro_rules! shape {
+    ($shape:ident $takes:tt $($call:ident)*) => {
+        pub type $shape = unsafe extern "C" fn $takes -> usize;
+        unsafe extern "C" {
+            $(pub fn $call $takes -> usize;)*
+        }
+    };
+}
+
+shape! {
+    Alone(rows: *const usize, len: usize, n: usize, rounds: usize)
+    port_graph_roots
+    port_history_append
+}
+shape! {
+    Asks(rows: *const usize, len: usize, n: usize, q: *const usize, ql: usize, m: usize, rounds: usize)
+    port_graph_greatest
+    port_graph_is_critical
+    port_graph_get
+    port_graph_delivery_order
+    port_history_get
+    port_history_version
+    port_history_previous
+    port_history_next
+}
+shape! {
+    Lists(rows: *const usize, len: usize, n: usize, q: *const usize, ql: usize, m: usize, rounds: usize, out: *mut usize, ol: usize)
+    port_graph_predecessors
+    port_graph_concurrent
+    port_graph_direct_predecessors
+    port_history_predecessors
+    port_history_concurrent
+    port_history_replica_events
+    port_history_newly
+}
+shape! {
+    ListsAll(rows: *const usize, len: usize, n: usize, rounds: usize, out: *mut usize, ol: usize)
+    port_graph_frontier
+    port_history_iter
+}
+// A change is lent the graph's tables.
+shape! {
+    Changes(rows: *const usize, len: usize, n: usize, rounds: usize, slots: *mut usize, pasts: *mut u64)
+    port_graph_append
+    port_graph_copies
+}
+shape! {
+    ChangesAt(rows: *const usize, len: usize, n: usize, q: *const usize, ql: usize, m: usize, rounds: usize, slots: *mut usize, pasts: *mut u64)
+    port_graph_flush
+    port_graph_advance
+    port_graph_remove
+}
+shape! {
+    Masks(rows: *const usize, len: usize, n: usize, mask: *const u8, ml: usize, rounds: usize, slots: *mut usize, pasts: *mut u64)
+    port_graph_retain
+}
 
 /// Numbers for 256 slots: more columns than the graph has, and four words of ancestors.
 const COLUMNS: usize = 16;

@@ -12,8 +12,8 @@ abbrev μ-loop : tie.MeasureT-loop
 new-requires : tie.Need-new-requires Inv-loop μ-loop
 new-requires c κs = tt
 
-fresh-requires : tie.Need-fresh-requires Inv-loop μ-loop
-fresh-requires c κs = tt
+unread-requires : tie.Need-unread-requires Inv-loop μ-loop
+unread-requires c κs = tt
 
 loop-holds : tie.Need-loop-holds Inv-loop μ-loop
 loop-holds c = tt
@@ -55,7 +55,7 @@ run-spec =
     Inv-loop
     μ-loop
     new-requires
-    fresh-requires
+    unread-requires
     loop-holds
     written-requires
     moved-requires
