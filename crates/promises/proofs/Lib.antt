@@ -10,6 +10,7 @@ pub mod DocumentedVersions
 pub mod DocumentedFlush
 pub mod DocumentedAppend
 pub mod ReachedDocumented
+pub mod WhyDocumented
 pub mod Pigeonhole
 pub mod Matching
 pub mod AgreeCuts
@@ -27,4 +28,5 @@ pub mod OneAnswerClocks
 pub mod OneAnswerPositions
 pub mod OneAnswerHistory
 pub mod OneAnswerGraph
+pub mod OneAnswerWhy
 pub mod OneAnswerTables
