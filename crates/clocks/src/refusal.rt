@@ -40,6 +40,9 @@ pub const BAD_LINE: usize = 18;
 // Document 02, P2.
 pub const MIXED_REVISION: usize = 19;
 
+// Document 02, P3.
+pub const BAD_LENGTH: usize = 20;
+
 // What a call that writes a list answers: how many entries it wrote from the buffer's start, or the refusal number.
 pub enum Listed {
     Count(usize),

@@ -1,4 +1,4 @@
--- Each of the seven commands, written with single spaces, reads back as that command with its vector: what the rules allow is not refused.
+-- Each of the eight commands, written with single spaces, reads back as that command with its vector: what the rules allow is not refused.
 use mathlib.Core.List.{List, [], _∷_, _++_}
 use mathlib.Core.Path.{_≡_, refl}
 use Prim.Native.Nat.{ℕ, _+_, _^_, _≤_, _<_}
@@ -8,7 +8,7 @@ use borrow.Author.Tests.{lt-ltb, le-ltb, le-leb}
 use Rattle.text.specs.Numbers.{digitsIn, spelled}
 use Rattle.text.specs.Bytes.{bytesBefore}
 use Rattle.text.proofs.Spelling.{digits-le}
-use Rattle.listing.specs.Commands.{replicasLine, removeLine, sheetLine, vectorLine, vectorAt, spacedRest, spacedNote, appendLine, byWord, lineTold}
+use Rattle.listing.specs.Commands.{numberedLine, removeLine, sheetLine, vectorLine, vectorAt, spacedRest, spacedNote, appendLine, byWord, lineTold}
 use Rattle.listing.specs.Laying.{joined, spaced}
 use Rattle.listing.specs.Sheets.{SmallId}
 use Rattle.listing.specs.Words.{bytes, sameBytes}
@@ -17,7 +17,7 @@ use Rattle.clocks.specs.declared.id.Disambiguator.{Disambiguator}
 use Rattle.clocks.specs.declared.id.Disambiguator.the-variants.{Absent, Number as number}
 use Rattle.clocks.specs.declared.id.EventId.{EventId}
 use Rattle.listing.specs.declared.command.Command.{Command}
-use Rattle.listing.specs.declared.command.Command.the-variants.{Replicas, Append, Greatest, Check, Advance, Remove, Sheet}
+use Rattle.listing.specs.declared.command.Command.the-variants.{Replicas, Append, Greatest, Check, Advance, Remove, Sheet, Why}
 use Rattle.listing.specs.declared.command.Read.the-variants.{Line}
 use Rattle.listing.proofs.Laying.{size-spaced}
 use Rattle.listing.proofs.Said.{text, Small, tagText, idThen, spaced-at, end-left, digits-text, entries-at, id-at}
@@ -58,11 +58,18 @@ module _ (n : ℕ) (ns : List ℕ) (ok : Sayable (n ∷ ns)) where
       (vector-told Advance (bytes "advance" ++ text (n ∷ ns)) 7 (n ∷ ns) ok refl)
 
 pub read-replicas : (r : ℕ) → r < 2 ^ 64 → lineTold 16 (bytes "replicas" ++ text (r ∷ [])) ≡ (Line (Replicas r), [])
-unfolding lineTold byWord bytesBefore sameBytes bytes joined spaced replicasLine digitsIn
+unfolding lineTold byWord bytesBefore sameBytes bytes joined spaced numberedLine digitsIn
 read-replicas r h =
     let s : List ℕ = bytes "replicas" ++ text (r ∷ []) in
     let told = spaced-at s [] 8 r refl h refl in
     rw (le-ltb 512 (length s) (omega (arith, length-append (bytes "replicas") (text (r ∷ [])), size-spaced (r ∷ []))), told .0, le-leb _ _ (end-left s _ (told .1)))
+
+pub read-why : (n : ℕ) → n < 2 ^ 64 → lineTold 16 (bytes "why" ++ text (n ∷ [])) ≡ (Line (Why n), [])
+unfolding lineTold byWord bytesBefore sameBytes bytes joined spaced numberedLine digitsIn
+read-why n h =
+    let s : List ℕ = bytes "why" ++ text (n ∷ []) in
+    let told = spaced-at s [] 3 n refl h refl in
+    rw (le-ltb 512 (length s) (omega (arith, length-append (bytes "why") (text (n ∷ [])), size-spaced (n ∷ []))), told .0, le-leb _ _ (end-left s _ (told .1)))
 
 pub read-sheet : lineTold 16 (bytes "sheet") ≡ (Line Sheet, [])
 unfolding lineTold byWord bytesBefore sameBytes bytes sheetLine

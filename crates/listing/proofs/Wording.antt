@@ -13,9 +13,10 @@ use Rattle.laws.proofs.Orders.{le-or-lt, true-or-false}
 use Rattle.laws.specs.Counting.{pick}
 use Rattle.laws.specs.Lists.{written}
 use Rattle.text.specs.Bytes.{Same}
-use Rattle.listing.specs.Commands.{withNumber, withId, spacedNumber, spacedId, Told, nothing, replicasLine, removeLine, sheetLine, byWord, Tells}
+use Rattle.listing.specs.Commands.{withNumber, withId, spacedNumber, spacedId, Told, nothing, numberedLine, removeLine, sheetLine, byWord, Tells}
 use Rattle.listing.specs.Words.{sameBytes}
-use Rattle.listing.specs.declared.command.Command.the-variants.{Replicas, Remove, Sheet}
+use Rattle.listing.specs.declared.command.Command.{Command}
+use Rattle.listing.specs.declared.command.Command.the-variants.{Remove, Sheet}
 use Rattle.listing.specs.declared.command.Read.{Read}
 use Rattle.listing.specs.declared.command.Read.the-variants.{Line}
 use Rattle.listing.specs.declared.fields.Named.{Named}
@@ -53,7 +54,7 @@ same-told s t false h =
 pub unmet : (s t : List ℕ) {r : Bool} → Same s t r → r ≡ false → sameBytes s t ≡ false
 unmet s t h f = sym (same-told s t _ h) ∙ f
 
--- what a line with the word w says, whatever its place among the seven: they differ, so where a comparison met w no earlier one is met too
+-- what a line with the word w says, whatever its place among the eight: they differ, so where a comparison met w no earlier one is met too
 pub by-this : (told : ℕ → List ℕ → ℕ → Told) (room : ℕ) (s : List ℕ) {word w v v′ : List ℕ} {r : Bool} {a : Read}
     → Same word w r → r ≡ true → byWord room s w ≡ told room s (length w) → Tells (told room s (length word)) v v′ a → Tells (byWord room s word) v v′ a
 by-this told room s {word} {w} m t e h =
@@ -69,12 +70,12 @@ either : (t : Bool) (r : Read) → pick t (r, []) nothing .1 ≡ []
 either true r = refl
 either false r = refl
 
-pub replicas-none : (s : List ℕ) (at : ℕ) → replicasLine s at .1 ≡ []
-unfolding replicasLine
-replicas-none s at = by-number (spacedNumber s at)
+pub numbered-none : (make : ℕ → Command) (s : List ℕ) (at : ℕ) → numberedLine make s at .1 ≡ []
+unfolding numberedLine
+numbered-none make s at = by-number (spacedNumber s at)
   where
-    by-number : (n : Number) → withNumber n nothing (λ r next. pick (leb (length s) next) (Line (Replicas r), []) nothing) .1 ≡ []
-    by-number (Value n next) = either (leb (length s) next) (Line (Replicas n))
+    by-number : (n : Number) → withNumber n nothing (λ k next. pick (leb (length s) next) (Line (make k), []) nothing) .1 ≡ []
+    by-number (Value n next) = either (leb (length s) next) (Line (make n))
     by-number Bad = refl
 
 pub remove-none : (s : List ℕ) (at : ℕ) → removeLine s at .1 ≡ []

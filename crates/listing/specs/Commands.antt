@@ -1,4 +1,4 @@
--- Document 01, The listing program: which bytes are which command. A place in a line is a number of bytes before it.
+-- Document 01, The listing program, and document 02, P3: which bytes are which command. A place in a line is a number of bytes before it.
 use mathlib.Core.Bool.{_&&_}
 use mathlib.Core.List.{List, [], _∷_}
 use mathlib.Core.Path.{_≡_}
@@ -24,7 +24,7 @@ use Rattle.listing.specs.declared.fields.Noted.the-variants.{Note, NoNot
 use Rattle.listing.specs.declared.fields.Vector.{Vector}
 use Rattle.listing.specs.declared.fields.Vector.the-variants.{Entries, NoVector}
 use Rattle.listing.specs.declared.command.Command.{Command}
-use Rattle.listing.specs.declared.command.Command.the-variants.{Replicas, Append, Greatest, Check, Advance, Remove, Sheet}
+use Rattle.listing.specs.declared.command.Command.the-variants.{Replicas, Append, Greatest, Check, Advance, Remove, Sheet, Why}
 use Rattle.listing.specs.declared.command.Read.{Read}
 use Rattle.listing.specs.declared.command.Read.the-variants.{Line, NoLine}
 
@@ -116,9 +116,9 @@ Told = Read × List ℕ
 abbrev pub nothing : Told
 nothing = (NoLine, [])
 
--- replicas R
-unfoldable pub replicasLine : List ℕ → ℕ → Told
-replicasLine s at = withNumber (spacedNumber s at) nothing (λ r next. pick (leb (length s) next) (Line (Replicas r), []) nothing)
+-- a word with a number behind it: replicas R, why L
+unfoldable pub numberedLine : (ℕ → Command) → List ℕ → ℕ → Told
+numberedLine make s at = withNumber (spacedNumber s at) nothing (λ n next. pick (leb (length s) next) (Line (make n), []) nothing)
 
 -- remove O S D
 unfoldable pub removeLine : List ℕ → ℕ → Told
@@ -139,13 +139,14 @@ appendLine room s at = withNote (spacedNote s at) nothing (λ e behindNote. vect
 -- by the line's first word
 unfoldable pub byWord : ℕ → List ℕ → List ℕ → Told
 byWord room s word =
-    pick (sameBytes word (bytes "replicas")) (replicasLine s (length word))
+    pick (sameBytes word (bytes "replicas")) (numberedLine Replicas s (length word))
     (pick (sameBytes word (bytes "append")) (appendLine room s (length word))
     (pick (sameBytes word (bytes "greatest")) (vectorLine Greatest room s (length word))
     (pick (sameBytes word (bytes "check")) (vectorLine Check room s (length word))
     (pick (sameBytes word (bytes "advance")) (vectorLine Advance room s (length word))
     (pick (sameBytes word (bytes "remove")) (removeLine s (length word))
-    (pick (sameBytes word (bytes "sheet")) (sheetLine s (length word)) nothing))))))
+    (pick (sameBytes word (bytes "sheet")) (sheetLine s (length word))
+    (pick (sameBytes word (bytes "why")) (numberedLine Why s (length word)) nothing)))))))
 
 -- a line, with a buffer of this length lent for its vector
 unfoldable pub lineTold : ℕ → List ℕ → Told

@@ -1,6 +1,7 @@
--- What the contracts of `listing` cite: words, commands, answers and the sheet.
+-- What the contracts of `listing` cite: words, commands, answers, the sheet and the answer to `why`.
 pub mod Words
 pub mod Commands
 pub mod Laying
 pub mod Answers
 pub mod Sheets
+pub mod Whys

@@ -1,7 +1,7 @@
-// A line of the listing program, read into one of its seven commands. Document 01, The listing program.
+// A line of the listing program, read into one of its eight commands. Document 01, The listing program, and document 02, P3.
 ghost use mathlib.Core.Path.{_≡_};
 ghost use lib.ListN.{length};
-ghost use Rattle.listing.specs.Commands.{Tells, replicasLine, removeLine, sheetLine, vectorLine, appendLine, byWord, lineTold};
+ghost use Rattle.listing.specs.Commands.{Tells, numberedLine, removeLine, sheetLine, vectorLine, appendLine, byWord, lineTold};
 use crate::fields::Named;
 use crate::fields::Noted;
 use crate::fields::Vector;
@@ -34,6 +34,8 @@ pub enum Command {
     Advance(usize),
     Remove(EventId),
     Sheet,
+    // The length.
+    Why(usize),
 }
 
 // A line, or bytes that are none.
@@ -44,7 +46,7 @@ pub enum Read {
 
 // replicas R
 fn replicas_line(s: &[u8], at: usize) -> Read
-    ensures { λ r. ⌜ r ≡ replicasLine (now (s .entry)) at .0 ⌝ }
+    ensures { λ r. ⌜ r ≡ numberedLine Command.Replicas (now (s .entry)) at .0 ⌝ }
 {
     let number = spaced_number(s, at);
     let Number::Value(n, next) = number else {
@@ -52,6 +54,20 @@ fn replicas_line(s: &[u8], at: usize) -> Read
     };
     if s.len() <= next {
         return Read::Line(Command::Replicas(size(n)));
+    }
+    Read::NoLine
+}
+
+// why L
+fn why_line(s: &[u8], at: usize) -> Read
+    ensures { λ r. ⌜ r ≡ numberedLine Command.Why (now (s .entry)) at .0 ⌝ }
+{
+    let number = spaced_number(s, at);
+    let Number::Value(n, next) = number else {
+        return Read::NoLine;
+    };
+    if s.len() <= next {
+        return Read::Line(Command::Why(size(n)));
     }
     Read::NoLine
 }
@@ -153,6 +169,9 @@ fn by_word(s: &[u8], word: &[u8], vector: &mut [Seq]) -> Read
     }
     if same(word, b"sheet") {
         return sheet_line(s, at);
+    }
+    if same(word, b"why") {
+        return why_line(s, at);
     }
     Read::NoLine
 }

@@ -3,3 +3,4 @@ pub mod answer;
 pub mod command;
 mod fields;
 pub mod sheet;
+pub mod why;

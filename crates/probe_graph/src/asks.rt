@@ -4,8 +4,11 @@ use clocks::refusal::BAD_LINE;
 use graph::EventGraph;
 use graph::Found;
 use graph::Order;
+use graph::Pasts;
 use graph::Slots;
 use graph::Told;
+use graph::why::Why;
+use numbers::entry;
 use positions::NodeIndex;
 use probe_text::answers::Answer;
 use probe_text::answers::yes_no;
@@ -22,9 +25,11 @@ const LEN: usize = 3;
 
 const IS_EMPTY: usize = 4;
 
+const WHY: usize = 5;
+
 fn word(line: &[u8], kinds: &[u8], values: &[usize]) -> usize {
     row(
-        b"g.get:i g.order:i g.is-critical:v g.len: g.is-empty:",
+        b"g.get:i g.order:i g.is-critical:v g.len: g.is-empty: g.why:n",
         line,
         kinds,
         values,
@@ -37,6 +42,7 @@ pub fn asked<'a>(
     kinds: &[u8],
     values: &'a [usize],
     slots: &'a Slots,
+    pasts: &'a Pasts,
 ) -> Answer {
     match word(line, kinds, values) {
         GET => found(g.get(id(kinds, values), slots)),
@@ -44,6 +50,7 @@ pub fn asked<'a>(
         IS_CRITICAL => told(g.is_critical(values, slots)),
         LEN => Answer::Number(g.len()),
         IS_EMPTY => yes_no(g.is_empty()),
+        WHY => why(g, entry(values, 0), slots, pasts),
         _ => Answer::Bare(BAD_LINE),
     }
 }
@@ -68,4 +75,23 @@ fn told(t: Told) -> Answer {
         Told::No => yes_no(false),
         Told::Refused(r) => Answer::Bare(r),
     }
+}
+
+// `g.why L`: a cut, or two ids, the later first.
+fn why<'a>(g: EventGraph, length: usize, slots: &'a Slots, pasts: &'a Pasts) -> Answer {
+    match g.why(length, pasts) {
+        Why::Cut => Answer::Cut,
+        Why::Lacks(later, earlier) => pair(g.event_at(later, slots), g.event_at(earlier, slots)),
+        Why::Refused(r) => Answer::Bare(r),
+    }
+}
+
+fn pair(later: Found, earlier: Found) -> Answer {
+    let Found::Op(first) = later else {
+        return Answer::Absent;
+    };
+    let Found::Op(second) = earlier else {
+        return Answer::Absent;
+    };
+    Answer::Ids(first.id(), second.id())
 }

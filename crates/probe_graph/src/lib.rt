@@ -122,5 +122,10 @@ fn asked<'a>(
     if word != NO_ROW {
         return frontiers::told(frontiers::called(word, g, values, slots), out, at);
     }
-    answers::told(out, at, asks::asked(g, line, kinds, values, slots), false)
+    answers::told(
+        out,
+        at,
+        asks::asked(g, line, kinds, values, slots, pasts),
+        false,
+    )
 }

@@ -23,18 +23,20 @@ const PARENTS: usize = 0;
 // Told as numbers.
 const CUTS: usize = 1;
 
+const CHAIN: usize = 2;
+
 // Told as events.
-const HEADS: usize = 2;
+const HEADS: usize = 3;
 
-const ITER: usize = 3;
+const ITER: usize = 4;
 
-const PREDECESSORS: usize = 4;
+const PREDECESSORS: usize = 5;
 
-const CONCURRENT: usize = 5;
+const CONCURRENT: usize = 6;
 
 pub fn word(line: &[u8], kinds: &[u8], values: &[usize]) -> usize {
     row(
-        b"g.parents:i g.cuts: g.heads: g.iter: g.predecessors:v g.concurrent:v g.replica-events:nnn",
+        b"g.parents:i g.cuts: g.chain:n g.heads: g.iter: g.predecessors:v g.concurrent:v g.replica-events:nnn",
         line,
         kinds,
         values,
@@ -54,6 +56,7 @@ fn called<'a>(
     match word {
         PARENTS => g.direct_predecessors(id(kinds, values), slots, pasts, list),
         CUTS => g.cuts(list),
+        CHAIN => g.chain(NodeIndex(entry(values, 0)), pasts, list),
         HEADS => g.frontier(pasts, list),
         ITER => g.iter(list),
         PREDECESSORS => g.predecessors(values, slots, list),
@@ -144,8 +147,16 @@ fn entries(
     at
 }
 
+fn is_numbers(word: usize) -> bool {
+    match word {
+        CUTS => true,
+        CHAIN => true,
+        _ => false,
+    }
+}
+
 fn one(word: usize, g: EventGraph, k: usize, out: &mut [u8], at: usize, slots: &Slots) -> usize {
-    if word == CUTS {
+    if is_numbers(word) {
         return answers::spaced(out, at, k);
     }
     held(word, g.event_at(NodeIndex(k), slots), out, at)

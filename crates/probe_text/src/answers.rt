@@ -17,6 +17,8 @@ pub enum Answer {
     Absent,
     Event(TaggedOp),
     Compared(Comparison),
+    Cut,
+    Ids(EventId, EventId),
 }
 
 pub fn yes_no(yes: bool) -> Answer {
@@ -66,6 +68,12 @@ pub fn id(out: &mut [u8], at: usize, id: EventId) -> usize {
     tag(out, at, d)
 }
 
+// Two ids, each after a space.
+fn ids(out: &mut [u8], at: usize, first: EventId, second: EventId) -> usize {
+    let at = id(out, at, first);
+    id(out, at, second)
+}
+
 // An event after a space.
 pub fn event(out: &mut [u8], at: usize, op: TaggedOp) -> usize {
     let at = id(out, at, op.id());
@@ -99,6 +107,8 @@ fn rest(out: &mut [u8], at: usize, a: Answer) -> usize {
         Answer::Absent => put(out, at, b" -"),
         Answer::Event(op) => event(out, at, op),
         Answer::Compared(c) => comparison(out, at, c),
+        Answer::Cut => put(out, at, b" cut"),
+        Answer::Ids(first, second) => ids(out, at, first, second),
     }
 }
 

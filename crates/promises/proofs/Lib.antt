@@ -11,6 +11,7 @@ pub mod DocumentedVersions
 pub mod DocumentedFlush
 pub mod DocumentedAppend
 pub mod ReachedDocumented
+pub mod WhyDocumented
 pub mod Pigeonhole
 pub mod Matching
 pub mod AgreeCuts
@@ -28,4 +29,5 @@ pub mod OneAnswerClocks
 pub mod OneAnswerPositions
 pub mod OneAnswerHistory
 pub mod OneAnswerGraph
+pub mod OneAnswerWhy
 pub mod OneAnswerTables

@@ -19,7 +19,9 @@ pub enum Answer {
     Event(Option<Event>),
     Events(Vec<Event>),
     Ids(Vec<Id>),
-    Lengths(Vec<u64>),
+    Pair(Id, Id),
+    /// Lengths or positions.
+    Numbers(Vec<u64>),
 }
 
 pub fn id_text(id: &Id) -> String {
@@ -46,7 +48,7 @@ impl Answer {
         match self {
             Answer::Events(list) => list.len(),
             Answer::Ids(list) => list.len(),
-            Answer::Lengths(list) => list.len(),
+            Answer::Numbers(list) => list.len(),
             _ => 0,
         }
     }
@@ -68,7 +70,8 @@ impl Answer {
             }
             Answer::Events(list) => list.iter().map(event_text).collect(),
             Answer::Ids(list) => list.iter().map(id_text).collect(),
-            Answer::Lengths(list) => numbers(list),
+            Answer::Pair(first, second) => vec![id_text(first), id_text(second)],
+            Answer::Numbers(list) => numbers(list),
         };
         std::iter::once("0".to_string())
             .chain(values)

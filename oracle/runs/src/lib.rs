@@ -4,6 +4,7 @@
 pub mod answer;
 pub mod counts;
 pub mod lines;
+pub mod links;
 pub mod model;
 pub mod original;
 pub mod random;

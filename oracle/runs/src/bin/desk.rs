@@ -11,8 +11,9 @@ use moirai_protocol::{
 };
 use runs::{
     lines::{Event, Id},
+    links::{chain, id_at, why},
     original::{Operation, cuts, event_id, frontier, id_of, original_event, resolver},
-    text::{id_words, numbers_line},
+    text::{id_words, numbers_line, spaced},
 };
 
 struct Desk {
@@ -72,6 +73,16 @@ impl Desk {
             numbers_line("cuts", &cuts)
         )
     }
+
+    fn why(&self, length: usize, out: &mut impl Write) -> io::Result<()> {
+        match why(&self.log, length) {
+            None => writeln!(out, "0 cut"),
+            Some((later, earlier)) => {
+                let ids = [later, earlier].map(|position| id_words(&id_at(&self.log, position)));
+                writeln!(out, "0 {}\n{}", ids.join(" "), spaced(&chain(&self.log, later)))
+            }
+        }
+    }
 }
 
 /// The numbers that end a line.
@@ -100,6 +111,11 @@ fn answer(desk: &mut Option<Desk>, line: &str, out: &mut impl Write) -> Option<i
     let desk = desk.as_mut()?;
     if line == "sheet" {
         return Some(desk.sheet(out));
+    }
+    if word == "why" {
+        let length: usize = tokens.next()?.parse().ok()?;
+        let known = (1..=desk.log.len()).contains(&length);
+        return known.then(|| desk.why(length, out));
     }
     if word == "append" || word == "remove" {
         let id = id(&mut tokens)?;

@@ -1,10 +1,10 @@
 -- A word that was met decides alone, and where none was met the line is none.
 use mathlib.Core.Path.{refl}
 use borrow.Author.Needs.{needs}
-use Rattle.listing.specs.Commands.{byWord, replicasLine, removeLine, sheetLine, vectorLine, appendLine}
+use Rattle.listing.specs.Commands.{byWord, numberedLine, removeLine, sheetLine, vectorLine, appendLine}
 use Rattle.listing.specs.Words.{bytes, sameBytes}
-use Rattle.listing.specs.declared.command.Command.the-variants.{Greatest, Check, Advance}
-use Rattle.listing.proofs.Wording.{unmet, by-this, tells-none, replicas-none, remove-none, sheet-none}
+use Rattle.listing.specs.declared.command.Command.the-variants.{Replicas, Greatest, Check, Advance, Why}
+use Rattle.listing.proofs.Wording.{unmet, by-this, tells-none, numbered-none, remove-none, sheet-none}
 use Rattle.listing.proofs.command.by_word.Statement.{statement}
 use Rattle.listing.proofs.command.by_word.Tie as tie
 
@@ -19,7 +19,7 @@ replicas-line-requires c κs = search needs
 
 returns : tie.Need-returns
 unfolding byWord sameBytes bytes
-returns c = by-this (λ room. replicasLine) _ _ (c .before .before .same .ensures) (c .before .if1 .taken) refl (tells-none _ (replicas-none _ _) (c .replicas-line .ensures))
+returns c = by-this (λ room. numberedLine Replicas) _ _ (c .before .before .same .ensures) (c .before .if1 .taken) refl (tells-none _ (numbered-none Replicas _ _) (c .replicas-line .ensures))
 
 slice-aggregate-same-2 : tie.Need-slice-aggregate-same-2
 slice-aggregate-same-2 c = search needs
@@ -111,17 +111,31 @@ returns-7 : tie.Need-returns-7
 unfolding byWord sameBytes bytes
 returns-7 c = by-this (λ room. sheetLine) _ _ (c .before .before .same7 .ensures) (c .before .if7 .taken) refl (tells-none _ (sheet-none _ _) (c .sheet-line .ensures))
 
+slice-aggregate-same-8 : tie.Need-slice-aggregate-same-8
+slice-aggregate-same-8 c = search needs
+
+same-requires-8 : tie.Need-same-requires-8
+same-requires-8 c κs = search needs
+
+why-line-requires : tie.Need-why-line-requires
+why-line-requires c κs = search needs
+
 returns-8 : tie.Need-returns-8
+unfolding byWord sameBytes bytes
+returns-8 c = by-this (λ room. numberedLine Why) _ _ (c .before .before .same8 .ensures) (c .before .if8 .taken) refl (tells-none _ (numbered-none Why _ _) (c .why-line .ensures))
+
+returns-9 : tie.Need-returns-9
 unfolding byWord bytes
-returns-8 c = let x = c .before .before .before .before .before .before .before .before .before .before .before .before .before .before .before .before .before .before .before .before .before .before .before .before .args .word .now in
+returns-9 c = let x = c .before .before .before .before .before .before .before .before .before .before .before .before .before .before .before .before .before .before .before .before .before .before .before .before .before .before .before .args .word .now in
     rw (
-      unmet x (bytes "replicas") (c .before .before .before .before .before .before .before .before .before .before .before .before .before .before .before .before .before .before .before .same .ensures) (c .before .before .before .before .before .before .before .before .before .before .before .before .before .before .before .before .before .before .if1 .left),
-      unmet x (bytes "append") (c .before .before .before .before .before .before .before .before .before .before .before .before .before .before .before .before .same2 .ensures) (c .before .before .before .before .before .before .before .before .before .before .before .before .before .before .before .if2 .left),
-      unmet x (bytes "greatest") (c .before .before .before .before .before .before .before .before .before .before .before .before .before .same3 .ensures) (c .before .before .before .before .before .before .before .before .before .before .before .before .if3 .left),
-      unmet x (bytes "check") (c .before .before .before .before .before .before .before .before .before .before .same4 .ensures) (c .before .before .before .before .before .before .before .before .before .if4 .left),
-      unmet x (bytes "advance") (c .before .before .before .before .before .before .before .same5 .ensures) (c .before .before .before .before .before .before .if5 .left),
-      unmet x (bytes "remove") (c .before .before .before .before .same6 .ensures) (c .before .before .before .if6 .left),
-      unmet x (bytes "sheet") (c .before .same7 .ensures) (c .if7 .left),
+      unmet x (bytes "replicas") (c .before .before .before .before .before .before .before .before .before .before .before .before .before .before .before .before .before .before .before .before .before .before .same .ensures) (c .before .before .before .before .before .before .before .before .before .before .before .before .before .before .before .before .before .before .before .before .before .if1 .left),
+      unmet x (bytes "append") (c .before .before .before .before .before .before .before .before .before .before .before .before .before .before .before .before .before .before .before .same2 .ensures) (c .before .before .before .before .before .before .before .before .before .before .before .before .before .before .before .before .before .before .if2 .left),
+      unmet x (bytes "greatest") (c .before .before .before .before .before .before .before .before .before .before .before .before .before .before .before .before .same3 .ensures) (c .before .before .before .before .before .before .before .before .before .before .before .before .before .before .before .if3 .left),
+      unmet x (bytes "check") (c .before .before .before .before .before .before .before .before .before .before .before .before .before .same4 .ensures) (c .before .before .before .before .before .before .before .before .before .before .before .before .if4 .left),
+      unmet x (bytes "advance") (c .before .before .before .before .before .before .before .before .before .before .same5 .ensures) (c .before .before .before .before .before .before .before .before .before .if5 .left),
+      unmet x (bytes "remove") (c .before .before .before .before .before .before .before .same6 .ensures) (c .before .before .before .before .before .before .if6 .left),
+      unmet x (bytes "sheet") (c .before .before .before .before .same7 .ensures) (c .before .before .before .if7 .left),
+      unmet x (bytes "why") (c .before .same8 .ensures) (c .if8 .left),
     ) (record { command = refl; content = refl })
 
 pub by-word-spec : {M : Type 1} → statement M
@@ -160,4 +174,8 @@ by-word-spec =
     same-requires-7
     sheet-line-requires
     returns-7
-    returns-8)
+    slice-aggregate-same-8
+    same-requires-8
+    why-line-requires
+    returns-8
+    returns-9)

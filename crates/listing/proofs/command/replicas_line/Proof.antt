@@ -2,7 +2,7 @@
 use mathlib.Core.Path.{sym, _∙_}
 use borrow.Author.Tests.{le-leb, lt-leb}
 use borrow.Author.Needs.{needs}
-use Rattle.listing.specs.Commands.{replicasLine}
+use Rattle.listing.specs.Commands.{numberedLine}
 use Rattle.listing.proofs.command.replicas_line.Statement.{statement}
 use Rattle.listing.proofs.command.replicas_line.Tie as tie
 
@@ -16,18 +16,18 @@ enum-told : tie.Need-enum-told
 enum-told c = search needs
 
 returns : tie.Need-returns
-unfolding replicasLine
+unfolding numberedLine
 returns c = rw (sym (c .before .before .spaced-number .ensures) ∙ c .enum-told .given .1)
 
 size-requires : tie.Need-size-requires
 size-requires c κs = search needs
 
 returns-2 : tie.Need-returns-2
-unfolding replicasLine
+unfolding numberedLine
 returns-2 c = rw (sym (c .before .before .before .before .before .spaced-number .ensures) ∙ c .before .before .before .number .given .1, le-leb _ _ (c .before .if1 .taken), c .size .ensures)
 
 returns-3 : tie.Need-returns-3
-unfolding replicasLine
+unfolding numberedLine
 returns-3 c = rw (sym (c .before .before .before .before .spaced-number .ensures) ∙ c .before .before .number .given .1, lt-leb _ _ (c .if1 .left))
 
 pub replicas-line-spec : {M : Type 1} → statement M

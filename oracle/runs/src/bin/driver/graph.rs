@@ -12,6 +12,7 @@ use moirai_protocol::{
 use runs::{
     answer::Answer,
     lines::{Call, Id, Vector},
+    links::{chain, id_at, why},
     original::*,
 };
 
@@ -97,11 +98,16 @@ impl Graph {
                 heads.sort_by_key(|head| self.log.delivery_order(head.id()));
                 Answer::Events(events_of(&heads)).into()
             }
-            Call::Cuts => Answer::Lengths(cuts(&self.log)).into(),
+            Call::Cuts => Answer::Numbers(cuts(&self.log)).into(),
             Call::Order(id) => {
                 let position = self.log.delivery_order(&event_id(&self.names, id));
                 Answer::Position(position.map(|p| p as u64)).into()
             }
+            Call::Why(length) => match why(&self.log, *length as usize) {
+                None => Answer::Word("cut").into(),
+                Some((later, earlier)) => Answer::Pair(id_at(&self.log, later), id_at(&self.log, earlier)).into(),
+            },
+            Call::Chain(position) => Answer::Numbers(chain(&self.log, *position as usize)).into(),
             Call::Prune(v) => {
                 let frontier = frontier(v);
                 Answer::Number(self.removed(|log, _| log.prune_predecessors(&frontier))).into()
@@ -131,7 +137,7 @@ impl Graph {
         }
     }
 
-    /// The refusals that need no rule of the log: bad events, vectors and masks.
+    /// The refusals that need no rule of the log: bad events, vectors, masks and lengths.
     pub fn refusal(&self, call: &Call) -> Option<u64> {
         match call {
             Call::Append(event) => bad_event(self.replicas, event),
@@ -140,6 +146,7 @@ impl Graph {
             }
             Call::IsCritical(v) | Call::Advance(v) | Call::Prune(v) => bad_vector(self.replicas, v).then_some(3),
             Call::Retain(mask) => (mask.len() != self.log.len() || mask.iter().any(|&keep| keep > 1)).then_some(15),
+            Call::Why(length) => (*length == 0 || *length > self.log.len() as u64).then_some(20),
             _ => None,
         }
     }

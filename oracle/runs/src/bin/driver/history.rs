@@ -80,7 +80,14 @@ impl History {
             }
             Call::Clear => self.removing(|log| log.clear()),
             Call::New(_) | Call::From(..) | Call::Roots | Call::Named | Call::Greatest(_) => unreachable!(),
-            Call::IsCritical(_) | Call::Parents(_) | Call::Heads | Call::Cuts | Call::Order(_) | Call::Advance(_) => {
+            Call::IsCritical(_)
+            | Call::Parents(_)
+            | Call::Heads
+            | Call::Cuts
+            | Call::Order(_)
+            | Call::Why(_)
+            | Call::Chain(_)
+            | Call::Advance(_) => {
                 unreachable!()
             }
         };

@@ -5,7 +5,7 @@
 //!
 //! A line of output is the original's answer, `panic`, or one of
 //!
-//! - `skip N`: refused by N; N is the driver's own finding for 1, 2, 3, 15, 17 and 18 and the port's for 4 to 8 and 19;
+//! - `skip N`: refused by N; N is the driver's own finding for 1, 2, 3, 15, 17, 18 and 20 and the port's for 4 to 8 and 19;
 //! - `skip unnamed`, `skip named ..`: the port answers, the original cannot be asked;
 //! - `16`: the original's list is longer than the room;
 //! - a word in capitals: the port's refusal is one that the original denies.

@@ -121,6 +121,7 @@ fn refusals(lines: &mut Vec<String>) {
         ] {
             lines.push(format!("g.replica-events {o} {a} {b}"));
         }
+        lines.extend([format!("g.why {o}"), format!("g.chain {o}")]);
         for word in ["get", "parents", "order", "remove"] {
             lines.extend(NUMBERS.map(|sequence| format!("g.{word} {o} {sequence} -")));
         }
@@ -212,6 +213,10 @@ fn full(filler: fn(u64) -> String, lines: &mut Vec<String>) {
     at_each_room("g.heads", 1, lines);
     at_each_room("g.cuts", 256, lines);
     at_each_room("g.cuts", 1, lines);
+    at_each_room("g.chain 255", 256, lines);
+    at_each_room("g.chain 255", 16, lines);
+    lines.extend(["g.chain 256".to_string(), "g.chain 240".to_string()]);
+    lines.extend([1, 16, 17, 255, 256, 257].map(|length| format!("g.why {length}")));
     lines.extend([
         format!("g.greatest {top}"),
         format!("g.flush {top}"),

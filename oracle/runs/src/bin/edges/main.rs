@@ -13,7 +13,7 @@ use runs::{
 };
 
 /// A good line of every word but the creations and `room`.
-const BEFORE: [&str; 49] = [
+const BEFORE: [&str; 51] = [
     "c.entry 0 1",
     "c.set 0 1 1",
     "c.join 1 | 1",
@@ -41,6 +41,8 @@ const BEFORE: [&str; 49] = [
     "g.heads",
     "g.cuts",
     "g.order 0 1 -",
+    "g.why 1",
+    "g.chain 0",
     "g.advance 1",
     "g.flush 1",
     "g.remove 0 1 -",

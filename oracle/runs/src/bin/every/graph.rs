@@ -37,6 +37,8 @@ pub fn ask(replicas: usize, log: &[Event], lines: &mut Vec<String>) {
     let mut probe = bring(replicas, log, lines);
     look(log, lines);
     lines.extend(log.last().map(of_another_revision));
+    lines.extend((0..=log.len() + 1).map(|length| format!("g.why {length}")));
+    lines.extend((0..=log.len()).map(|position| format!("g.chain {position}")));
     let mut critical = Vec::new();
     for bound in &bounds {
         let question = format!("g.is-critical {}", spaced(bound));

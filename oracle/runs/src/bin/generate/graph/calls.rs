@@ -29,6 +29,17 @@ impl GraphStory {
         id
     }
 
+    /// From `first` as many numbers as are held; in few cases another.
+    fn number(&self, page: &mut Page, first: u64) -> u64 {
+        let held = page.probe.graph.as_ref().unwrap().held.len() as u64;
+        let random = &mut page.random;
+        match random.below(12) {
+            0 => *random.pick(&EDGES),
+            1 => held + random.below(2),
+            _ => first + random.below(held.max(1)),
+        }
+    }
+
     /// A vector that the log has something to say about.
     fn vector(&self, page: &mut Page) -> Vec<u64> {
         let graph = page.probe.graph.as_ref().unwrap();
@@ -54,7 +65,7 @@ impl GraphStory {
     }
 
     pub fn ask(&self, page: &mut Page) {
-        let line = match page.random.below(20) {
+        let line = match page.random.below(23) {
             0 => format!("g.get {}", id_words(&self.id(page))),
             1 => format!("g.predecessors {}", spaced(&self.vector(page))),
             2 => format!("g.concurrent {}", spaced(&self.vector(page))),
@@ -78,6 +89,8 @@ impl GraphStory {
             13..=15 => format!("g.parents {}", id_words(&self.id(page))),
             16 => "g.heads".to_string(),
             17..=18 => "g.cuts".to_string(),
+            19..=20 => format!("g.why {}", self.number(page, 1)),
+            21 => format!("g.chain {}", self.number(page, 0)),
             _ => format!("g.order {}", id_words(&self.id(page))),
         };
         page.say(line);
