@@ -116,10 +116,7 @@ pub extern "C" fn port_graph_seen_all(
     let g = built(rows, n, &mut slots, &mut pasts);
     let mut sum: usize = 0;
     for k in 0..rounds {
-        sum = std::num::wrapping_add_usize(
-            sum,
-            told(g.seen_all(version(asked(queries, k, m)))),
-        );
+        sum = std::num::wrapping_add_usize(sum, told(g.seen_all(version(asked(queries, k, m)))));
     }
     sum
 }
