@@ -104,6 +104,24 @@ pub extern "C" fn port_graph_is_critical(
 }
 
 #[no_mangle]
+pub extern "C" fn port_graph_seen_all(
+    rows: &[usize],
+    n: usize,
+    queries: &[usize],
+    m: usize,
+    rounds: usize,
+) -> usize {
+    let mut slots = [[0; 256]; COLUMNS];
+    let mut pasts = [0; 1024];
+    let g = built(rows, n, &mut slots, &mut pasts);
+    let mut sum: usize = 0;
+    for k in 0..rounds {
+        sum = std::num::wrapping_add_usize(sum, told(g.seen_all(version(asked(queries, k, m)))));
+    }
+    sum
+}
+
+#[no_mangle]
 pub extern "C" fn port_graph_predecessors(
     rows: &[usize],
     n: usize,

@@ -21,15 +21,17 @@ const ORDER: usize = 1;
 
 const IS_CRITICAL: usize = 2;
 
-const LEN: usize = 3;
+const SEEN: usize = 3;
 
-const IS_EMPTY: usize = 4;
+const LEN: usize = 4;
 
-const WHY: usize = 5;
+const IS_EMPTY: usize = 5;
+
+const WHY: usize = 6;
 
 fn word(line: &[u8], kinds: &[u8], values: &[usize]) -> usize {
     row(
-        b"g.get:i g.order:i g.is-critical:v g.len: g.is-empty: g.why:n",
+        b"g.get:i g.order:i g.is-critical:v g.seen:v g.len: g.is-empty: g.why:n",
         line,
         kinds,
         values,
@@ -48,6 +50,7 @@ pub fn asked<'a>(
         GET => found(g.get(id(kinds, values), slots)),
         ORDER => order(g.delivery_order(id(kinds, values), slots)),
         IS_CRITICAL => told(g.is_critical(values, slots)),
+        SEEN => told(g.seen_all(values)),
         LEN => Answer::Number(g.len()),
         IS_EMPTY => yes_no(g.is_empty()),
         WHY => why(g, entry(values, 0), slots, pasts),

@@ -12,6 +12,7 @@ pub mod DocumentedFlush
 pub mod DocumentedAppend
 pub mod ReachedDocumented
 pub mod WhyDocumented
+pub mod SeenDocumented
 pub mod Pigeonhole
 pub mod Matching
 pub mod AgreeCuts

@@ -8,10 +8,6 @@ use denote.Ref.{now}
 use Rattle.graph.specs.Whole.{EventGraph, GraphAnswer, Removed, columns, answered, leaves}
 use Rattle.graph.specs.Advances.{Advanced, advances}
 use Rattle.graph.proofs.ColumnLaws.{slots-same}
-use Rattle.graph.specs.declared.EventGraph.{EventGraph as Small}
-use Rattle.graph.specs.declared.GraphAnswer.{GraphAnswer as SmallAnswer}
-use Rattle.graph.specs.declared.Removed.{Removed as SmallRemoved}
-use Rattle.graph.specs.declared.advance.Advanced.{Advanced as SmallAdvanced}
 use Rattle.graph.proofs.append.is_behind.Reads.{Post as is-behind}
 use Rattle.graph.proofs.append.empty_graph.Reads.{Post as empty-graph}
 use Rattle.graph.proofs.EventGraph.get.Reads.{Post as get}
@@ -23,6 +19,7 @@ use Rattle.graph.proofs.EventGraph.roots.Reads.{Post as roots}
 use Rattle.graph.proofs.EventGraph.named.Reads.{Post as named}
 use Rattle.graph.proofs.EventGraph.greatest_critical_frontier.Reads.{Post as greatest-critical-frontier}
 use Rattle.graph.proofs.EventGraph.is_critical.Reads.{Post as is-critical}
+use Rattle.graph.proofs.EventGraph.seen_all.Reads.{Post as seen-all}
 use Rattle.graph.proofs.EventGraph.predecessors.Reads.{Post as predecessors}
 use Rattle.graph.proofs.EventGraph.concurrent.Reads.{Post as concurrent}
 use Rattle.graph.proofs.EventGraph.iter.Reads.{Post as iter}
@@ -38,6 +35,10 @@ use Rattle.graph.proofs.EventGraph.retain.Reads.{Post as retain}
 use Rattle.graph.proofs.EventGraph.prune_predecessors.Reads.{Post as prune-predecessors}
 use Rattle.graph.proofs.EventGraph.advance.Reads.{Post as advance}
 use Rattle.graph.proofs.EventGraph.clear.Reads.{Post as clear}
+use Rattle.graph.specs.declared.EventGraph.{EventGraph as Small}
+use Rattle.graph.specs.declared.GraphAnswer.{GraphAnswer as SmallAnswer}
+use Rattle.graph.specs.declared.Removed.{Removed as SmallRemoved}
+use Rattle.graph.specs.declared.advance.Advanced.{Advanced as SmallAdvanced}
 use Rattle.promises.proofs.OneAnswer.{one-answer, writes-once, lists-if-once, Once, OnceWith}
 
 -- ---- a graph whose tables are lent: where the slots have as many columns as their type says, the answers are equal, and so is what is left in both tables
@@ -48,7 +49,7 @@ OnceTables {K} {A} {R} {S} P b c =
 
 -- what of an answer goes by value
 abbrev small : EventGraph → Small
-small g = record { held = g .held; rooted = g .rooted; roots = g .roots; named = g .named; cuts = g .cuts }
+small g = record { held = g .held; rooted = g .rooted; roots = g .roots; named = g .named; cuts = g .cuts; highs = g .highs }
 
 abbrev smallAnswer : GraphAnswer → SmallAnswer
 smallAnswer a = record { refusal = a .refusal; graph = small (a .graph) }
@@ -110,6 +111,9 @@ greatest-critical-frontier-once κs a x y s t p q = one-answer p q
 
 pub is-critical-once : Once is-critical
 is-critical-once κs a x y s t p q = one-answer p q
+
+pub seen-all-once : Once seen-all
+seen-all-once κs a x y s t p q = one-answer p q
 
 -- ---- lists
 

@@ -17,12 +17,13 @@ use Rattle.positions.proofs.Compacting.{rank-rises}
 use Rattle.graph.specs.Whole.{EventGraph, Removed}
 use Rattle.graph.specs.Refusals.{covered}
 use Rattle.graph.specs.Cuts.{baseOf, prefixFrontier, atBase, isCritical}
+use Rattle.graph.specs.Seen.{recounted}
 use Rattle.graph.specs.Removals.{kept, withoutId, retained, rootedAt, flushed}
 use Rattle.graph.specs.Invariant.{replicaAt, seqAt}
 use Rattle.graph.proofs.DescentLaws.{recorded-elim}
 use Rattle.graph.proofs.KeptLaws.{from, kept-ok}
 use Rattle.graph.proofs.RemainLaws.{was, was-kept, was-held, stands, was-before, was-descent, kept-notes, roots-moved}
-use Rattle.graph.proofs.ReachedLaws.{rooted-ok}
+use Rattle.graph.proofs.ReachedLaws.{recounted-ok, rooted-ok}
 use Rattle.graph.proofs.CoverLaws.{covered-intro}
 use Rattle.graph.proofs.FrontierLaws.{base-entry, desk-small, prefix-up, prefix-least}
 use Rattle.graph.proofs.CriticalLaws.{AtCut, critical-cut, same-entries}
@@ -57,10 +58,10 @@ module _ (g : EventGraph) (W : Versions) (f : ℕ → Bool) (ok : LogOk g W) (he
       (λ q. omega (arith, rank-rises (setOf f) (before j m) (before i l) q (from g f (ok .graph) held j m .kept-at), from g f (ok .graph) held j m .is-rank, from g f (ok .graph) held i l .is-rank))
       (λ q. was-before g f (ok .graph) held j i m l q)
 
-  pub kept-log : LogOk (kept g f) W
+  pub kept-log : LogOk (recounted (kept g f)) W
   unfolding kept
   kept-log = record {
-    graph = kept-ok g f (ok .graph) held;
+    graph = recounted-ok (kept g f) (kept-ok g f (ok .graph) held);
     notes = kept-notes g f (ok .graph) (ok .notes) held;
     long = λ k l. rw (same-version k l) (ok .long (before k l) (stood k l));
     own = λ k l. rw (same-version k l, same-replica k l, same-seq k l) (ok .own (before k l) (stood k l));
@@ -74,7 +75,7 @@ module _ (g : EventGraph) (W : Versions) (f : ℕ → Bool) (ok : LogOk g W) (he
         rw (same-replica i a, same-replica k l, same-seq i a, same-seq k l) s;
   }
 
-log-of : (g : EventGraph) (W : Versions) (f : ℕ → Bool) → LogOk g W → LogOk (kept g (picks g f)) W
+log-of : (g : EventGraph) (W : Versions) (f : ℕ → Bool) → LogOk g W → LogOk (recounted (kept g (picks g f))) W
 log-of g W f ok = kept-log g W (picks g f) ok (picks-held g f)
 
 pub remove-log : (g : EventGraph) (W : Versions) (id : EventId) → LogOk g W → LogOk (withoutId g id .graph) W
@@ -118,7 +119,7 @@ module _ (g : EventGraph) (W : Versions) (v : List ℕ) (ok : LogOk g W) where
   rooted-log : wellFormed (g .named .len) v ≡ true → isCritical g v ≡ true → LogOk (rootedAt (kept g (stays g v)) v) W
   unfolding kept
   rooted-log h c = record {
-    graph = rooted-ok (kept g (stays g v)) (fromEntries (g .named .len) v .frontier) (remains .graph);
+    graph = rooted-ok (kept g (stays g v)) (fromEntries (g .named .len) v .frontier) (kept-ok g (stays g v) (ok .graph) (stays-held g v));
     notes = roots-moved g v (ok .graph) (ok .notes) h c;
     long = remains .long;
     own = remains .own;
@@ -132,7 +133,7 @@ module _ (g : EventGraph) (W : Versions) (v : List ℕ) (ok : LogOk g W) where
     first = remains .first;
   }
     where
-      remains : LogOk (kept g (stays g v)) W
+      remains : LogOk (recounted (kept g (stays g v))) W
       remains = kept-log g W (stays g v) ok (stays-held g v)
 
 pub flush-log : (g : EventGraph) (W : Versions) (v : List ℕ) → LogOk g W → LogOk (flushed g v .graph) W

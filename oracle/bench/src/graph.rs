@@ -31,6 +31,9 @@ pub fn measure() -> Vec<Row> {
     };
     let log = build();
     let middle = &rows[(HELD / 2 - 1) * notes::ROW..(HELD / 2) * notes::ROW];
+    // A version that covers all of them.
+    let whole = notes::Note { origin: 0, seq: HELD, lamport: 0, payload: 0, version: [HELD; notes::DESKS] };
+    let (whole_row, whole) = (notes::rows(std::slice::from_ref(&whole)), notes::version(&names, &whole));
     let mask: Vec<u8> = (0..HELD).map(|i| (i % 2) as u8).collect();
     let port = Port::new(rows.clone(), HELD);
 
@@ -63,6 +66,13 @@ pub fn measure() -> Vec<Row> {
         faster(10.0, "append", appends(port.changes(40, port_graph_append)), appends(asked(10, HELD, |_| build()) - events_alone)),
         faster(3.0, "greatest", port.asks_all(n, port_graph_greatest), asked(n, HELD, |k| log.greatest_critical_frontier(&frontiers[k]))),
         faster(3.0, "is_critical", port.asks_all(n, port_graph_is_critical), asked(n, HELD, |k| log.is_critical(&frontiers[k]))),
+        // Against a look at every event.
+        faster(
+            10.0,
+            "seen_all",
+            port.asks_at(n, port_graph_seen_all, &whole_row),
+            asked(n, HELD, |_| log.iter().all(|op| op.id().is_predecessor_of(&whole))),
+        ),
         faster(3.0, "predecessors", port.lists(n, port_graph_predecessors), asked(n, HELD, |k| log.predecessors(&versions[k]))),
         faster(3.0, "concurrent", port.lists(n, port_graph_concurrent), asked(n, HELD, |k| log.concurrent(&versions[k]))),
         faster(3.0, "frontier", port.lists_all(n, port_graph_frontier), asked(n, HELD, |_| log.frontier())),

@@ -23,6 +23,7 @@ shape! {
     Asks(rows: *const usize, len: usize, n: usize, q: *const usize, ql: usize, m: usize, rounds: usize)
     port_graph_greatest
     port_graph_is_critical
+    port_graph_seen_all
     port_graph_get
     port_graph_delivery_order
     port_history_get
@@ -102,6 +103,14 @@ impl Port {
         let (rows, len, n) = self.log();
         per_round(rounds, |k| unsafe {
             black_box(call(rows, len, n, rows, len, n, k));
+        })
+    }
+
+    /// The call about one note.
+    pub fn asks_at(&self, rounds: usize, call: Asks, note: &[usize]) -> f64 {
+        let (rows, len, n) = self.log();
+        per_round(rounds, |k| unsafe {
+            black_box(call(rows, len, n, note.as_ptr(), note.len(), 1, k));
         })
     }
 

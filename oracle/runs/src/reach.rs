@@ -8,7 +8,7 @@ const NOT_IN_THE_ORIGINAL: &str = "g.named";
 /// The numbers for which the original panics.
 const PANICS: [u64; 7] = [2, 9, 10, 11, 12, 13, 14];
 
-const WORDS: [(&str, &[u64]); 56] = [
+const WORDS: [(&str, &[u64]); 57] = [
     ("room", &[]),
     ("c.replicas", &[17]),
     ("c.entry", &[3, 18]),
@@ -42,6 +42,7 @@ const WORDS: [(&str, &[u64]); 56] = [
     ("g.order", &[18]),
     ("g.why", &[18, 20]),
     ("g.chain", &[16, 18]),
+    ("g.seen", &[3, 18]),
     ("g.advance", &[3, 18]),
     ("g.flush", &[3, 9, 18]),
     ("g.remove", &[18]),

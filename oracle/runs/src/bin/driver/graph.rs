@@ -108,6 +108,7 @@ impl Graph {
                 Some((later, earlier)) => Answer::Pair(id_at(&self.log, later), id_at(&self.log, earlier)).into(),
             },
             Call::Chain(position) => Answer::Numbers(chain(&self.log, *position as usize)).into(),
+            Call::Seen(v) => Answer::YesNo(self.log.predecessors(&version(v)).len() == self.log.len()).into(),
             Call::Prune(v) => {
                 let frontier = frontier(v);
                 Answer::Number(self.removed(|log, _| log.prune_predecessors(&frontier))).into()
@@ -130,10 +131,8 @@ impl Graph {
                 self.named.fill(0);
                 Answer::Number(self.removed(|log, _| log.clear())).into()
             }
-            Call::New(_) | Call::From(..) => unreachable!(),
-            Call::Version(_) | Call::LastVersion(_) | Call::Previous(..) | Call::Next(..) | Call::Newly(_) => {
-                unreachable!()
-            }
+            Call::New(_) | Call::From(..) => unreachable!("made by the driver"),
+            _ => unreachable!("a history's word"),
         }
     }
 
@@ -144,7 +143,9 @@ impl Graph {
             Call::Predecessors(v) | Call::Concurrent(v) | Call::Greatest(v) => {
                 bad_vector(self.replicas, v).then_some(3)
             }
-            Call::IsCritical(v) | Call::Advance(v) | Call::Prune(v) => bad_vector(self.replicas, v).then_some(3),
+            Call::IsCritical(v) | Call::Seen(v) | Call::Advance(v) | Call::Prune(v) => {
+                bad_vector(self.replicas, v).then_some(3)
+            }
             Call::Retain(mask) => (mask.len() != self.log.len() || mask.iter().any(|&keep| keep > 1)).then_some(15),
             Call::Why(length) => (*length == 0 || *length > self.log.len() as u64).then_some(20),
             _ => None,

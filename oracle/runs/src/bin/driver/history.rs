@@ -79,17 +79,8 @@ impl History {
                 self.removing(|log| log.retain(|event| keep[&id_of(event.id())] == 1))
             }
             Call::Clear => self.removing(|log| log.clear()),
-            Call::New(_) | Call::From(..) | Call::Roots | Call::Named | Call::Greatest(_) => unreachable!(),
-            Call::IsCritical(_)
-            | Call::Parents(_)
-            | Call::Heads
-            | Call::Cuts
-            | Call::Order(_)
-            | Call::Why(_)
-            | Call::Chain(_)
-            | Call::Advance(_) => {
-                unreachable!()
-            }
+            Call::New(_) => unreachable!("made by the driver"),
+            _ => unreachable!("a graph's word"),
         };
         answer.into()
     }

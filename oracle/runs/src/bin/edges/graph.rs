@@ -2,7 +2,7 @@
 
 use runs::{
     lines::TOP,
-    text::{numbers_line, spaced},
+    text::{numbers_line, spaced, up_to},
 };
 
 use crate::{NUMBERS, at_each_room, vectors};
@@ -17,6 +17,16 @@ const LOOK: [&str; 7] = [
     "g.is-empty",
 ];
 
+const WITH_A_VECTOR: [&str; 7] = [
+    "greatest",
+    "is-critical",
+    "advance",
+    "flush",
+    "predecessors",
+    "concurrent",
+    "seen",
+];
+
 fn look(lines: &mut Vec<String>) {
     lines.extend(LOOK.map(str::to_string));
 }
@@ -25,6 +35,7 @@ pub fn edges(lines: &mut Vec<String>) {
     creations(lines);
     refusals(lines);
     siblings(lines);
+    highest(lines);
     for filler in [chain, braid] {
         full(filler, lines);
     }
@@ -34,17 +45,7 @@ fn creations(lines: &mut Vec<String>) {
     for replicas in 1..=16 {
         for v in vectors(replicas).iter().map(|v| spaced(v)) {
             lines.push(format!("g.from {replicas} {v}"));
-            lines.extend(
-                [
-                    "greatest",
-                    "is-critical",
-                    "advance",
-                    "flush",
-                    "predecessors",
-                    "concurrent",
-                ]
-                .map(|word| format!("g.{word} {v}")),
-            );
+            lines.extend(WITH_A_VECTOR.map(|word| format!("g.{word} {v}")));
             look(lines);
         }
     }
@@ -156,6 +157,37 @@ fn siblings(lines: &mut Vec<String>) {
     }
 }
 
+/// Whether all is seen, with just enough and one entry too low, before and after each change that takes a highest note.
+fn highest(lines: &mut Vec<String>) {
+    for change in [
+        "g.len",
+        "g.remove 0 3 -",
+        "g.remove 0 3 0",
+        "g.remove 1 1 -",
+        "g.retain 1 1 0 0 1",
+        "g.retain 0 0 1 1 0",
+        "g.flush 2 0",
+        "g.advance 3 0",
+        "g.flush 3 1",
+        "g.clear",
+    ] {
+        lines.push("g.new 2".to_string());
+        lines.extend(
+            [
+                "0 1 - 1 1 1 1 0",
+                "0 2 - 1 1 1 2 0",
+                "0 3 - 1 1 1 3 0",
+                "0 3 0 1 1 1 3 0",
+                "1 1 - 1 1 1 2 1",
+            ]
+            .map(|note| format!("g.append {note}")),
+        );
+        lines.push(change.to_string());
+        lines.extend(up_to(&[4, 2]).iter().map(|v| format!("g.seen {}", spaced(v))));
+        lines.extend(["g.append 1 2 - 1 1 1 3 2", "g.seen 3 1", "g.seen 3 2"].map(str::to_string));
+    }
+}
+
 /// Note number i of one desk, each heard by the next.
 fn chain(i: u64) -> String {
     format!(
@@ -222,6 +254,8 @@ fn full(filler: fn(u64) -> String, lines: &mut Vec<String>) {
         format!("g.flush {top}"),
         format!("g.flush {zeros}"),
         format!("g.advance {zeros}"),
+        format!("g.seen {top}"),
+        format!("g.seen {zeros}"),
     ]);
     for length in [0, 255, 257, 2043] {
         lines.push(numbers_line("g.retain", &vec![1; length]));
@@ -235,7 +269,11 @@ fn full(filler: fn(u64) -> String, lines: &mut Vec<String>) {
     lines.push(numbers_line("g.retain", &every_third));
     lines.extend((256..270).map(|i| format!("g.append {}", filler(i))));
     look(lines);
-    lines.push(format!("g.advance {top}"));
+    lines.extend([
+        format!("g.advance {top}"),
+        format!("g.seen {top}"),
+        format!("g.seen {zeros}"),
+    ]);
     look(lines);
     lines.extend(["g.clear", "g.clear"].map(str::to_string));
     look(lines);

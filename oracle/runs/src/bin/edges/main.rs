@@ -13,7 +13,7 @@ use runs::{
 };
 
 /// A good line of every word but the creations and `room`.
-const BEFORE: [&str; 51] = [
+const BEFORE: [&str; 52] = [
     "c.entry 0 1",
     "c.set 0 1 1",
     "c.join 1 | 1",
@@ -43,6 +43,7 @@ const BEFORE: [&str; 51] = [
     "g.order 0 1 -",
     "g.why 1",
     "g.chain 0",
+    "g.seen 1",
     "g.advance 1",
     "g.flush 1",
     "g.remove 0 1 -",

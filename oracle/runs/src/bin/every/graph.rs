@@ -46,6 +46,7 @@ pub fn ask(replicas: usize, log: &[Event], lines: &mut Vec<String>) {
             critical.push(bound);
         }
         lines.extend([format!("g.greatest {}", spaced(bound)), question]);
+        lines.push(format!("g.seen {}", spaced(bound)));
     }
     let tops = spaced(bounds.last().unwrap());
     for (i, frontier) in critical.into_iter().enumerate() {

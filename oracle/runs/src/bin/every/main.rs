@@ -4,8 +4,9 @@
 //! any set that holds the desk's own notes and the past of each of its notes; or it is the next sibling of the note before it.
 //! So every finite way for these desks to write is listed, and each in every order in which its notes can arrive after their past.
 //!
-//! - `graph`: each log, its cuts, heads and parents, a sibling of its last note with another revision, `why` and `chain` at every number, `greatest` and `is-critical` at every vector up to its tops, and a flush at each
-//!   critical one of these vectors, with the same questions after it and an advance to the tops; and an advance at one that is not critical.
+//! - `graph`: each log, its cuts, heads and parents, a sibling of its last note with another revision, `why` and `chain` at every number,
+//!   `greatest`, `is-critical` and `seen` at every vector up to its tops, and a flush at each critical one of these vectors, with the same
+//!   questions after it and an advance to the tops; and an advance at one that is not critical.
 //! - `orders`: each set of notes that is a log, in each order that keeps every desk's own order and brings some note before its past.
 //! - `history`: each set of notes that is a log without siblings: `previous` and `next` of each id and desk, `newly` of each id, and the
 //!   same again after a prune at every vector up to its tops.

@@ -64,8 +64,21 @@ impl GraphStory {
         misshape(random, v)
     }
 
+    /// What is just enough to have seen everything, or near it, or any vector.
+    fn enough(&self, page: &mut Page) -> Vec<u64> {
+        if page.random.chance(40) {
+            return self.vector(page);
+        }
+        let graph = page.probe.graph.as_ref().unwrap();
+        let mut enough = graph.frontier(graph.held.len());
+        if page.random.chance(50) {
+            nudge(&mut page.random, &mut enough);
+        }
+        enough
+    }
+
     pub fn ask(&self, page: &mut Page) {
-        let line = match page.random.below(23) {
+        let line = match page.random.below(25) {
             0 => format!("g.get {}", id_words(&self.id(page))),
             1 => format!("g.predecessors {}", spaced(&self.vector(page))),
             2 => format!("g.concurrent {}", spaced(&self.vector(page))),
@@ -90,7 +103,8 @@ impl GraphStory {
             16 => "g.heads".to_string(),
             17..=18 => "g.cuts".to_string(),
             19..=20 => format!("g.why {}", self.number(page, 1)),
-            21 => format!("g.chain {}", self.number(page, 0)),
+            21..=22 => format!("g.seen {}", spaced(&self.enough(page))),
+            23 => format!("g.chain {}", self.number(page, 0)),
             _ => format!("g.order {}", id_words(&self.id(page))),
         };
         page.say(line);
