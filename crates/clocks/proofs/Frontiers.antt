@@ -8,18 +8,21 @@ use Prim.Native.Nat.{ℕ, max, min, _<_, _≤_}
 use native.Mathlib.Nat.{max-le, le-max-left, le-max-right, min-le-left, min-le-right, le-min}
 use native.Mathlib.Decide.{ℕ-discrete}
 use native.Mathlib.Omega.{arith}
+use lib.Dec.{ltb}
 use lib.ListN.{length, getD, set, replicate, length-set}
 use lib.Seq.{ext-getD, getD-set-same, getD-set-other}
 use borrow.Author.Tests.{le-ltb, ltb-false, eq-eqb, ne-eqb}
+use Rattle.laws.specs.Counting.{pick}
 use Rattle.laws.specs.Lists.{tabulate}
 use Rattle.laws.proofs.Lists.{getD-zeros, tabulate-cong, getD-tabulate, getD-tabulate-all, length-tabulate}
-use Rattle.laws.proofs.Orders.{true-or-false}
+use Rattle.laws.proofs.Orders.{true-or-false, or-neither}
+use Rattle.clocks.specs.Refusals.{accepted, badCount}
 use Rattle.clocks.specs.Vectors.{top, desks, entry, wellFormed, covers, atMost, compared}
-use Rattle.clocks.specs.Frontiers.{FrontierOk, zeros, joinEntries, meetEntries, joined, met, isBadCount, newFrontier, fromEntries}
+use Rattle.clocks.specs.Frontiers.{FrontierOk, zeros, joinEntries, meetEntries, joined, met, isBadCount, newFrontier, fromEntries, isBadRaise, widened}
 use Rattle.clocks.specs.declared.causal_frontier.CausalFrontier.{CausalFrontier}
 use Rattle.clocks.specs.declared.id.EventId.{EventId}
 use Rattle.clocks.specs.declared.vector.Comparison.the-variants.{Equal}
-use Rattle.clocks.proofs.Vectors.{entry-out, well-formed-length, well-formed-entry, at-most-intro, at-most-elim, at-most-antisym, covers-mono, compared-tells, Tells}
+use Rattle.clocks.proofs.Vectors.{entry-out, well-formed-length, well-formed-entry, well-formed-out, at-most-intro, at-most-elim, at-most-antisym, covers-mono, compared-tells, Tells}
 
 -- ---- entries of a join and of a meet
 
@@ -85,23 +88,20 @@ from-entries-ok r v l h = record {
   room = l;
   long = length-tabulate (entry v) desks;
   high = λ i. rw (same i) (well-formed-entry r v h i);
-  rest = λ i p. same i ∙ entry-out v i (rw (well-formed-length r v h) p);
+  rest = λ i p. same i ∙ well-formed-out r v h i p;
 }
   where
     same : (i : ℕ) → getD (tabulate (entry v) desks) i 0 ≡ entry v i
-    same = getD-tabulate-all (entry v) desks (λ i p. let e = well-formed-length r v h in entry-out v i (omega arith))
+    same = getD-tabulate-all (entry v) desks (λ i p. well-formed-out r v h i (omega arith))
 
 -- a frontier made from a well-formed vector says the same
 pub made : (r : ℕ) (v : List ℕ) → r ≤ desks → wellFormed r v ≡ true
     → FrontierOk (fromEntries r v .frontier) × (fromEntries r v .frontier .len ≡ r) × ((i : ℕ) → entry (fromEntries r v .frontier .entries) i ≡ entry v i)
 unfolding fromEntries
 made r v l h = elim (ℕ-discrete r 0) [
-  | yes z ↦ rw (eq-eqb r 0 z) (zeros-ok 0 (omega arith), sym z, λ i. getD-zeros 16 i ∙ sym (out i (omega arith)))
-  | no z ↦ rw (ne-eqb r 0 z, le-ltb desks r l, h) (from-entries-ok r v l h, refl, getD-tabulate-all (entry v) desks (λ i q. out i (omega arith)))
+  | yes z ↦ rw (eq-eqb r 0 z) (zeros-ok 0 (omega arith), sym z, λ i. getD-zeros 16 i ∙ sym (well-formed-out r v h i (omega arith)))
+  | no z ↦ rw (ne-eqb r 0 z, le-ltb desks r l, h) (from-entries-ok r v l h, refl, getD-tabulate-all (entry v) desks (λ i q. well-formed-out r v h i (omega arith)))
 ]
-  where
-    out : (i : ℕ) → r ≤ i → entry v i ≡ 0
-    out i q = entry-out v i (omega (arith, well-formed-length r v h))
 
 -- a count that is not refused is 1 to 16
 pub good-count : (r : ℕ) → isBadCount r ≡ false → (1 ≤ r) × (r ≤ desks)
@@ -190,8 +190,60 @@ join-version-ok f v ok h = record {
   room = ok .room;
   long = length-tabulate (λ i. max (entry (f .entries) i) (entry v i)) desks;
   high = λ i. rw (at i) (max-le (ok .high i) (well-formed-entry (f .len) v h i));
-  rest = λ i p. at i ∙ rw (ok .rest i p, entry-out v i (rw (well-formed-length (f .len) v h) p));
+  rest = λ i p. at i ∙ rw (ok .rest i p, well-formed-out (f .len) v h i p);
 }
   where
     at : (i : ℕ) → entry (joinEntries (f .entries) v) i ≡ max (entry (f .entries) i) (entry v i)
     at = join-entry (f .entries) v (omega (arith, ok .long)) (omega (arith, ok .room, well-formed-length (f .len) v h))
+
+-- ---- more desks
+
+-- a raise that is not refused is to 1 to 16, and not below the present R
+pub good-raise : (r s : ℕ) → isBadRaise r s ≡ false → (1 ≤ s) × (s ≤ desks) × (r ≤ s)
+good-raise r s e =
+    let t = or-neither (isBadCount s) (ltb s r) e in
+    (good-count s (t .0) .0, good-count s (t .0) .1, ltb-false s r (t .1))
+
+-- it is not refused for these
+pub raise-fits : (r s : ℕ) → 1 ≤ s → s ≤ desks → r ≤ s → isBadRaise r s ≡ false
+raise-fits r s p q l = rw (ne-eqb s 0 (λ e. omega arith), le-ltb desks s q, le-ltb s r l)
+
+-- the number is 0 or 17
+pub widen-refusal : (f : CausalFrontier) (r : ℕ) → widened f r .refusal ≡ pick (isBadRaise (f .len) r) badCount accepted
+unfolding widened
+widen-refusal f r = ⊎-elim
+    (λ (t : isBadRaise (f .len) r ≡ true). rw t)
+    (λ (z : isBadRaise (f .len) r ≡ false). rw z) (true-or-false (isBadRaise (f .len) r))
+
+-- the same R changes nothing
+pub widen-same : (f : CausalFrontier) → widened f (f .len) .frontier ≡ f
+unfolding widened
+widen-same f = ⊎-elim
+    (λ (t : isBadRaise (f .len) (f .len) ≡ true). rw t)
+    (λ (z : isBadRaise (f .len) (f .len) ≡ false). rw z) (true-or-false (isBadRaise (f .len) (f .len)))
+
+-- refused or not, every entry reads as before
+pub widen-entries : (f : CausalFrontier) (r : ℕ) → widened f r .frontier .entries ≡ f .entries
+unfolding widened
+widen-entries f r = ⊎-elim
+    (λ (t : isBadRaise (f .len) r ≡ true). rw t)
+    (λ (z : isBadRaise (f .len) r ≡ false). rw z) (true-or-false (isBadRaise (f .len) r))
+
+-- and the frontier stays well made, so that the new entries are 0
+pub widen-ok : (f : CausalFrontier) (r : ℕ) → FrontierOk f → FrontierOk (widened f r .frontier)
+unfolding widened
+widen-ok f r ok = ⊎-elim
+    (λ (t : isBadRaise (f .len) r ≡ true). rw t ok)
+    (λ (z : isBadRaise (f .len) r ≡ false). rw z (record {
+      room = good-raise (f .len) r z .1;
+      long = ok .long;
+      high = ok .high;
+      rest = λ i p. ok .rest i (omega (arith, good-raise (f .len) r z .2));
+    })) (true-or-false (isBadRaise (f .len) r))
+
+-- R is then what was asked
+pub widen-len : (f : CausalFrontier) (r : ℕ) → widened f r .refusal ≡ accepted → widened f r .frontier .len ≡ r
+unfolding widened
+widen-len f r e = ⊎-elim
+    (λ (t : isBadRaise (f .len) r ≡ true). absurd (omega (arith, rw t at e)))
+    (λ (z : isBadRaise (f .len) r ≡ false). rw z) (true-or-false (isBadRaise (f .len) r))

@@ -8,7 +8,7 @@ use native.Mathlib.Nat.{le-antisymm, mod-eq-of-lt}
 use native.Mathlib.Omega.{arith}
 use lib.Dec.{leb, eqb}
 use lib.ListN.{length, List·getD-eq-default}
-use borrow.Author.Tests.{le-leb, leb-true, eqb-true, eq-eqb}
+use borrow.Author.Tests.{le-leb, leb-true, eqb-true}
 use Rattle.laws.specs.Counting.{allBelow, sumBelow}
 use Rattle.laws.proofs.Orders.{le-or-lt, and-both}
 use Rattle.laws.proofs.Counting.{all-intro, all-elim}
@@ -26,20 +26,28 @@ entry-out v i l = List·getD-eq-default v 0 l
 
 -- ---- well formed
 
-pub well-formed-length : (r : ℕ) (v : List ℕ) → wellFormed r v ≡ true → length v ≡ r
+pub well-formed-length : (r : ℕ) (v : List ℕ) → wellFormed r v ≡ true → length v ≤ r
 unfolding wellFormed
-well-formed-length r v h = eqb-true (length v) r (and-both (eqb (length v) r) (allBelow (λ i. leb (entry v i) top) (length v)) h .0)
+well-formed-length r v h = leb-true (length v) r (and-both (leb (length v) r) (allBelow (λ i. leb (entry v i) top) (length v)) h .0)
 
 pub well-formed-entry : (r : ℕ) (v : List ℕ) → wellFormed r v ≡ true → (i : ℕ) → entry v i ≤ top
 unfolding wellFormed
 well-formed-entry r v h i =
     ⊎-elim (λ (l : length v ≤ i). rw (entry-out v i l) (omega arith))
     (λ (l : i < length v). leb-true (entry v i) top
-    (all-elim (λ j. leb (entry v j) top) (length v) (and-both (eqb (length v) r) (allBelow (λ j. leb (entry v j) top) (length v)) h .1) i l)) (le-or-lt (length v) i)
+    (all-elim (λ j. leb (entry v j) top) (length v) (and-both (leb (length v) r) (allBelow (λ j. leb (entry v j) top) (length v)) h .1) i l)) (le-or-lt (length v) i)
 
-pub well-formed : (r : ℕ) (v : List ℕ) → length v ≡ r → ((i : ℕ) → entry v i ≤ top) → wellFormed r v ≡ true
+pub well-formed : (r : ℕ) (v : List ℕ) → length v ≤ r → ((i : ℕ) → entry v i ≤ top) → wellFormed r v ≡ true
 unfolding wellFormed
-well-formed r v e h = rw (eq-eqb (length v) r e) (all-intro (λ i. leb (entry v i) top) (length v) (λ i l. le-leb (entry v i) top (h i)))
+well-formed r v e h = rw (le-leb (length v) r e) (all-intro (λ i. leb (entry v i) top) (length v) (λ i l. le-leb (entry v i) top (h i)))
+
+-- so beyond R a well-formed vector says nothing
+pub well-formed-out : (r : ℕ) (v : List ℕ) → wellFormed r v ≡ true → (i : ℕ) → r ≤ i → entry v i ≡ 0
+well-formed-out r v h i l = entry-out v i (omega (arith, well-formed-length r v h))
+
+-- and is well formed for more replicas too
+pub well-formed-more : (r s : ℕ) (v : List ℕ) → r ≤ s → wellFormed r v ≡ true → wellFormed s v ≡ true
+well-formed-more r s v l h = well-formed s v (omega (arith, well-formed-length r v h)) (well-formed-entry r v h)
 
 -- an event's vector is well formed, and its own entry is its sequence
 pub well-formed-for : (r : ℕ) (v : List ℕ) (id : EventId) → wellFormedFor r v id ≡ true → (wellFormed r v ≡ true) × (entry v (id .idx .0) ≡ id .seq)

@@ -30,6 +30,10 @@ answer number f = record { refusal = number; frontier = f }
 abbrev pub isBadCount : ℕ → Bool
 isBadCount r = eqb r 0 || ltb desks r
 
+-- a raise from R to s: 17 also for s below R
+abbrev pub isBadRaise : ℕ → ℕ → Bool
+isBadRaise r s = isBadCount s || ltb s r
+
 -- creation: 17, else zeros
 unfoldable pub newFrontier : ℕ → FrontierAnswer
 newFrontier r = pick (isBadCount r) (answer badCount (zeros 0)) (answer accepted (zeros r))
@@ -68,6 +72,10 @@ met f g = record { len = max (f .len) (g .len); entries = meetEntries (f .entrie
 unfoldable pub joinVersion : CausalFrontier → List ℕ → FrontierAnswer
 joinVersion f v =
     pick (wellFormed (f .len) v) (answer accepted (record { len = f .len; entries = joinEntries (f .entries) v })) (answer badVector f)
+
+-- more desks: 17, else R is r and the entries stay, so that new ones are 0
+unfoldable pub widened : CausalFrontier → ℕ → FrontierAnswer
+widened f r = pick (isBadRaise (f .len) r) (answer badCount f) (answer accepted (record { len = r; entries = f .entries }))
 
 -- as long, and equal in every entry
 abbrev pub sameFrontier : CausalFrontier → CausalFrontier → Bool

@@ -25,9 +25,9 @@ desks = 16
 abbrev pub entry : List ℕ → ℕ → ℕ
 entry v i = getD v i 0
 
--- R long, no entry above the top
+-- at most R long, no entry above the top; a shorter vector counts as followed by zeros
 unfoldable pub wellFormed : ℕ → List ℕ → Bool
-wellFormed r v = eqb (length v) r && allBelow (λ i. leb (entry v i) top) (length v)
+wellFormed r v = leb (length v) r && allBelow (λ i. leb (entry v i) top) (length v)
 
 -- the same, and for an event its own entry equal to its sequence
 unfoldable pub wellFormedFor : ℕ → List ℕ → EventId → Bool

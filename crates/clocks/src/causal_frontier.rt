@@ -3,7 +3,7 @@ ghost use mathlib.Core.Path.{_≡_};
 ghost use lib.Dec.{eqb};
 ghost use lib.ListN.{set};
 ghost use Rattle.clocks.specs.Vectors.{entry, covers, compared, total};
-ghost use Rattle.clocks.specs.Frontiers.{newFrontier, fromEntries, setByIdx, joinEntries, meetEntries, joined, met, joinVersion, sameFrontier, isBadCount};
+ghost use Rattle.clocks.specs.Frontiers.{newFrontier, fromEntries, setByIdx, joinEntries, meetEntries, joined, met, joinVersion, widened, sameFrontier, isBadCount, isBadRaise};
 use crate::id::EventId;
 use crate::refusal::ACCEPTED;
 use crate::refusal::BAD_COUNT;
@@ -72,6 +72,13 @@ fn is_bad_count(r: usize) -> bool
     ensures { λ b. ⌜ b ≡ isBadCount r ⌝ }
 {
     if r == 0 { true } else { DESKS < r }
+}
+
+// A raise from R to s: s is no count, or below R.
+pub fn is_bad_raise(r: usize, s: usize) -> bool
+    ensures { λ b. ⌜ b ≡ isBadRaise r s ⌝ }
+{
+    if is_bad_count(s) { true } else { s < r }
 }
 
 fn zeros(r: usize) -> CausalFrontier
@@ -195,6 +202,17 @@ impl CausalFrontier {
         } else {
             answer(BAD_VECTOR, self)
         }
+    }
+
+    // More desks: 17 for 0, above 16 and below the present R. The new entries are 0.
+    pub fn raise(self, r: usize) -> FrontierAnswer
+        ensures { λ a. ⌜ a ≡ widened self r ⌝ }
+    {
+        if is_bad_raise(self.len, r) {
+            return answer(BAD_COUNT, self);
+        }
+        let entries = self.entries;
+        answer(ACCEPTED, CausalFrontier { len: r, entries })
     }
 
     // No entry below these. They are the caller's to keep within the top and below R.

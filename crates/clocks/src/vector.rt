@@ -35,11 +35,11 @@ pub fn seq_by_idx(v: &[Seq], idx: ReplicaIdx) -> Seq
     numbers::entry(v, idx.0)
 }
 
-// R long, and no entry above the top.
+// At most R long, and no entry above the top. A shorter vector counts as followed by zeros.
 pub fn well_formed(r: usize, v: &[Seq]) -> bool
     ensures { λ b. ⌜ b ≡ wellFormed r (now (v .entry)) ⌝ }
 {
-    if v.len() != r {
+    if r < v.len() {
         return false;
     }
     for i in 0..v.len() {

@@ -1,12 +1,15 @@
 -- On every history that calls reached: versions never fall, and the number held is what was accepted less what was removed.
 use mathlib.Core.Bool.{true}
 use mathlib.Core.List.{List}
-use mathlib.Core.Path.{_≡_}
-use Prim.Native.Nat.{ℕ, _+_, _≤_}
+use mathlib.Core.Path.{_≡_, ap, _∙_}
+use Prim.Native.Nat.{ℕ, _+_, _*_, _≤_}
+use native.Mathlib.Nat.{min-le-right}
 use native.Mathlib.Omega.{arith}
 use Rattle.laws.specs.Counting.{sumBelow}
-use Rattle.clocks.specs.Vectors.{entry}
+use Rattle.clocks.specs.Vectors.{desks, entry}
+use Rattle.history.specs.Tables.{rowOf, padded}
 use Rattle.history.specs.Traces.{replicas, lastOf, retainedOf, held, versionRow, heldCount}
+use Rattle.history.proofs.Tables.{row-reads, padded-entry}
 use Rattle.history.proofs.Traces.{held-tells, held-in}
 use Rattle.history.proofs.Counts.{held-exact}
 use Rattle.observation.specs.Reached.{Versions, Reached}
@@ -18,15 +21,21 @@ module _ {h : EventHistory} {versions notes boundaries : List ℕ} {W : Versions
   pub versions-rise : (r s t i : ℕ) → 1 ≤ s → s ≤ t → t ≤ lastOf h r → entry (W r s) i ≤ entry (W r t) i
   versions-rise = reached-kept w .carried .rises
 
+  -- the row of a retained event is the version that it was accepted with, R long by the R of now
+  pub row-is : (r s : ℕ) → held h r s ≡ true → versionRow h versions r s ≡ padded (W r s) (replicas h)
+  row-is r s e = row-reads versions (16 * rowOf r s) (W r s) (replicas h) (min-le-right (h .len) desks) (reached-kept w .carried .rows r s e)
+
+  -- so it says what that version said
+  pub row-entry : (r s : ℕ) → held h r s ≡ true → (i : ℕ) → entry (versionRow h versions r s) i ≡ entry (W r s) i
+  row-entry r s e i =
+      ap (λ (x : List ℕ). entry x i) (row-is r s e)
+      ∙ padded-entry (W r s) (replicas h) (reached-kept w .carried .long r s (held-in h r s e .1) (held-tells h r s e .2)) i
+
   -- and so of the rows of two retained events
   pub rows-rise : (r s t i : ℕ) → held h r s ≡ true → held h r t ≡ true → s ≤ t → entry (versionRow h versions r s) i ≤ entry (versionRow h versions r t) i
   rows-rise r s t i a b l =
       let c = reached-kept w .carried in
-      rw (c .rows r s a, c .rows r t b) (c .rises r s t i (held-in h r s a .1) l (held-tells h r t b .2))
-
-  -- the row of a retained event is the version that it was accepted with
-  pub row-is : (r s : ℕ) → held h r s ≡ true → versionRow h versions r s ≡ W r s
-  row-is = reached-kept w .carried .rows
+      omega (arith, row-entry r s a i, row-entry r t b i, c .rises r s t i (held-in h r s a .1) l (held-tells h r t b .2))
 
   -- a version's own entry is the sequence
   pub own-entry : (r s : ℕ) → 1 ≤ s → s ≤ lastOf h r → entry (W r s) r ≡ s

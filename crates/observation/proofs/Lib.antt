@@ -1,8 +1,10 @@
 -- What every call keeps: the tables carry the accepted versions. From it, what the answers mean: rising versions and counts, `previous`, `next`,
 -- `newly_observed_by`.
+
 pub mod Carried
 pub mod CarriedAppends
 pub mod CarriedPrunes
+pub mod CarriedRaises
 pub mod Kept
 pub mod Held
 pub mod Previous

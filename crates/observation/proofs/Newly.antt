@@ -3,7 +3,7 @@
 use mathlib.Core.Bool.{true, and-false}
 use mathlib.Core.List.{List, [], List·Memᴰ, Memᴰ·cast}
 use mathlib.Core.Logic.{_↔_, ⊎-elim}
-use mathlib.Core.Path.{_≡_, refl, _∙_}
+use mathlib.Core.Path.{_≡_, refl, ap, _∙_}
 use Prim.Native.Nat.{ℕ, _-_, _<_, _≤_, max, min}
 use native.Mathlib.Nat.{le-min, min-le-left, min-le-right, le-max-left, le-max-right}
 use native.Mathlib.Decide.{ℕ-discrete}
@@ -14,6 +14,7 @@ use Rattle.laws.proofs.Orders.{le-or-lt, max-lt, le-but}
 use Rattle.clocks.specs.Vectors.{entry}
 use Rattle.history.specs.Traces.{replicas, prunedOf, lastOf, held, holds, isBoundary, versionWithBoundary}
 use Rattle.history.specs.Lists.{strictPast, pastOf, seenBefore, newlyRows}
+use Rattle.history.proofs.Tables.{padded-entry}
 use Rattle.history.proofs.Traces.{held-tells, held-is, held-in, holds-held, holds-in}
 use Rattle.history.proofs.Lists.{newly-held}
 use Rattle.history.proofs.Members.{spans-member, spans-cases}
@@ -23,7 +24,7 @@ use Rattle.clocks.specs.declared.id.EventId.{EventId}
 use Rattle.history.specs.declared.event_history.EventHistory.{EventHistory}
 use Rattle.observation.proofs.Carried.{looked-up, not-held}
 use Rattle.observation.proofs.Kept.{reached-kept}
-use Rattle.observation.proofs.Held.{row-is, own-entry, versions-rise}
+use Rattle.observation.proofs.Held.{row-entry, own-entry, versions-rise}
 
 -- ---- what an event strictly saw
 
@@ -70,7 +71,7 @@ module _ {h : EventHistory} {versions notes boundaries : List ℕ} {W : Versions
   past-self = past-own _ r s r refl
 
   past-of : (q : ℕ) → (q ≡ r → ⊥) → past q ≡ entry (W r s) q
-  past-of q z = past-other _ r s q z ∙ rw (row-is w r s retained)
+  past-of q z = past-other _ r s q z ∙ row-entry w r s retained q
 
   -- sequence 1 has no predecessor
   seen-first : (q : ℕ) → s ≡ 1 → seen q ≡ 0
@@ -79,16 +80,18 @@ module _ {h : EventHistory} {versions notes boundaries : List ℕ} {W : Versions
       rw (z, no-version h versions boundaries r) (past-none r q)
 
   -- any other has one, retained or the last pruned
-  before : 2 ≤ s → versionWithBoundary h versions boundaries r (s - 1) ≡ W r (s - 1)
-  before l =
+  before : 2 ≤ s → (i : ℕ) → entry (versionWithBoundary h versions boundaries r (s - 1)) i ≡ entry (W r (s - 1)) i
+  before l i =
       let k = reached-kept w in
-      looked-up h versions boundaries W (k .ok) (k .carried) r (s - 1) (omega arith) (omega (arith, held-tells h r s retained .1)) (omega (arith, high))
+      ap (λ (x : List ℕ). entry x i)
+      (looked-up h versions boundaries W (k .ok) (k .carried) r (s - 1) (omega arith) (omega (arith, held-tells h r s retained .1)) (omega (arith, high)))
+      ∙ padded-entry (W r (s - 1)) (replicas h) (k .carried .long r (s - 1) (omega arith) (omega (arith, high))) i
 
   seen-self : 2 ≤ s → seen r ≡ s - 1 - 1
-  seen-self l = past-own _ r _ r refl ∙ rw (before l, own-entry w r (s - 1) (omega arith) (omega (arith, high)))
+  seen-self l = past-own _ r _ r refl ∙ ap (λ (x : ℕ). x - 1) (before l r ∙ own-entry w r (s - 1) (omega arith) (omega (arith, high)))
 
   seen-of : (q : ℕ) → (q ≡ r → ⊥) → 2 ≤ s → seen q ≡ entry (W r (s - 1)) q
-  seen-of q z l = past-other _ r _ q z ∙ rw (before l)
+  seen-of q z l = past-other _ r _ q z ∙ before l q
 
   -- ---- between what the predecessor had seen and what the event strictly saw are those that are newly observed
 

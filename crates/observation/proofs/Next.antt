@@ -23,7 +23,7 @@ use Rattle.history.specs.declared.event_history.EventHistory.{EventHistory}
 use Rattle.history.specs.declared.event_history.Found.the-variants.{Nothing}
 use Rattle.observation.proofs.Carried.{known, not-held}
 use Rattle.observation.proofs.Kept.{reached-kept}
-use Rattle.observation.proofs.Held.{row-is, own-entry}
+use Rattle.observation.proofs.Held.{row-entry, own-entry}
 
 -- ---- the answer by its cases, on any history
 
@@ -94,7 +94,7 @@ module _ {h : EventHistory} {versions notes boundaries : List ℕ} {W : Versions
     tested u e p =
         let t = held-tells h q u e in
         let same : prunedOf h q + (u - prunedOf h q - 1) + 1 ≡ u = omega (arith, t .1) in
-        rw (same, row-is w q u e) (covers-intro (W q u) id (p .seen))
+        rw same (covers-intro (versionRow h versions q u) id (omega (arith, p .seen, row-entry w q u e r)))
 
     fails : (u : ℕ) → held h q u ≡ true → InPast W q u r s → test (u - prunedOf h q - 1) ≡ false → ⊥
     fails u e p f = false≢true (sym f ∙ tested u e p)
@@ -103,7 +103,7 @@ module _ {h : EventHistory} {versions notes boundaries : List ℕ} {W : Versions
     answer-other (one i m t before e) =
         let u : ℕ = prunedOf h q + i + 1 in
         let kept : held h q u ≡ true = held-is h q u (known h (reached-kept w .ok) q (omega arith)) (omega arith) (omega arith) in
-        let seen : s ≤ entry (W q u) r = rw (row-is w q u kept) at (covers-elim (versionRow h versions q u) id t) in
+        let seen : s ≤ entry (W q u) r = omega (arith, covers-elim (versionRow h versions q u) id t, row-entry w q u kept r) in
         inl (
           u,
           record {

@@ -2,7 +2,7 @@
 use mathlib.Core.Bool.{true, false}
 use mathlib.Core.List.{List}
 use mathlib.Core.Logic.{⊎-elim}
-use mathlib.Core.Path.{_≡_, refl, _∙_}
+use mathlib.Core.Path.{_≡_, refl, ap, _∙_}
 use Prim.Native.Nat.{ℕ, _-_, _<_, _≤_}
 use native.Mathlib.Nat.{le-antisymm}
 use native.Mathlib.Decide.{ℕ-discrete}
@@ -18,7 +18,7 @@ use Rattle.observation.specs.Observation.{IsPrevious}
 use Rattle.clocks.specs.declared.id.EventId.{EventId}
 use Rattle.history.specs.declared.event_history.EventHistory.{EventHistory}
 use Rattle.history.specs.declared.event_history.Found.the-variants.{Nothing}
-use Rattle.observation.proofs.Held.{row-is, own-entry}
+use Rattle.observation.proofs.Held.{row-entry, own-entry}
 
 -- ---- the answer by its cases, on any history
 
@@ -68,7 +68,7 @@ module _ {h : EventHistory} {versions notes boundaries : List ℕ} {W : Versions
       let l = holds-in h notes id e .1 in
       elim (ℕ-discrete q r) [
         | yes p ↦ (s - 1, rw p (past-own W r s l (own-entry w r s l (held-tells h r s k .2))), previous-own h notes versions id q p)
-        | no p ↦ (entry (W r s) q, past-other W r s q p, previous-other h notes versions id q p e ∙ rw (row-is w r s k))
+        | no p ↦ (entry (W r s) q, past-other W r s q p, previous-other h notes versions id q p e ∙ ap (eventOf h notes q) (row-entry w r s k q))
       ]
 
   -- of the own replica that is so of every event that was accepted, retained or not

@@ -29,6 +29,8 @@ const REMOVE: usize = 4;
 
 const RETAIN: usize = 5;
 
+const RAISE: usize = 6;
+
 // The answer, whether it is a refusal, whether that handed back another graph, and the log.
 pub struct Change {
     pub answer: Answer,
@@ -39,7 +41,7 @@ pub struct Change {
 
 pub fn word(line: &[u8], kinds: &[u8], values: &[usize]) -> usize {
     row(
-        b"g.new:n g.from:nv g.append:innrv g.flush:v g.remove:i g.retain:m g.clear:",
+        b"g.new:n g.from:nv g.append:innrv g.flush:v g.remove:i g.retain:m g.raise:n g.clear:",
         line,
         kinds,
         values,
@@ -97,6 +99,7 @@ fn turned(
         FLUSH => removed(g, g.prune_predecessors(values, slots, pasts)),
         REMOVE => removed(g, g.remove(id(kinds, values), slots, pasts)),
         RETAIN => retained(g, values, slots, pasts),
+        RAISE => appended(g, g.raise(entry(values, 0))),
         _ => removed(g, g.clear(slots, pasts)),
     }
 }

@@ -26,6 +26,8 @@ const REMOVE: usize = 3;
 
 const RETAIN: usize = 4;
 
+const RAISE: usize = 5;
+
 // The answer, whether it is a refusal, whether that handed back another number of events, and the history.
 pub struct Change {
     pub answer: Answer,
@@ -36,7 +38,7 @@ pub struct Change {
 
 pub fn word(line: &[u8], kinds: &[u8], values: &[usize]) -> usize {
     row(
-        b"h.new:n h.append:innrv h.prune:v h.remove:i h.retain:m h.clear:",
+        b"h.new:n h.append:innrv h.prune:v h.remove:i h.retain:m h.raise:n h.clear:",
         line,
         kinds,
         values,
@@ -67,7 +69,7 @@ pub fn called(
     taken(word, h, kinds, values, versions, boundaries)
 }
 
-// The words that take events away.
+// The words that take events away, or let more desks in.
 fn taken(
     word: usize,
     h: EventHistory,
@@ -80,6 +82,7 @@ fn taken(
         PRUNE => pruned(h, h.prune_predecessors(values, versions, boundaries)),
         REMOVE => removed(h.remove(id(kinds, values), versions, boundaries)),
         RETAIN => retained(h, values, versions, boundaries),
+        RAISE => appended(h, h.raise(entry(values, 0))),
         _ => removed(h.clear()),
     }
 }

@@ -1,4 +1,8 @@
-//! The line reader of PROBE.md: one line is one command or a bad line.
+//! The lines of PROBE.md: one line is one command or a bad line.
+
+mod reader;
+
+pub use reader::{decimal, parse, split};
 
 pub const TOP: u64 = 4_294_967_295;
 pub const LONGEST: usize = 4096;
@@ -70,6 +74,7 @@ pub enum Call {
     Why(u64),
     Chain(u64),
     Seen(Vector),
+    Raise(u64),
     Advance(Vector),
     Version(Id),
     LastVersion(u64),
@@ -82,192 +87,63 @@ pub enum Call {
     Clear,
 }
 
+impl Command {
+    fn vectors_mut(&mut self) -> Vec<&mut Vector> {
+        match self {
+            Command::Room(_) => vec![],
+            Command::Clock(call) => call.vectors_mut(),
+            Command::Graph(call) | Command::History(call) => call.vector_mut().into_iter().collect(),
+        }
+    }
+
+    /// The command with its vectors filled up, given the desks of the clocks, the graph and the history; none where that is not made.
+    pub fn filled(mut self, clocks: Option<u64>, graph: Option<u64>, history: Option<u64>) -> Option<Self> {
+        let replicas = match &self {
+            Command::Room(_) => 0,
+            Command::Clock(Clock::Replicas(r)) | Command::History(Call::New(r)) => *r,
+            Command::Graph(Call::New(r) | Call::From(r, _)) => *r,
+            Command::Clock(_) => clocks?,
+            Command::Graph(_) => graph?,
+            Command::History(_) => history?,
+        };
+        self.vectors_mut().into_iter().for_each(|v| fill(v, replicas));
+        Some(self)
+    }
+}
+
+/// A vector that is shorter than R counts as followed by zeros. More than 16 desks there are not.
+pub fn fill(vector: &mut Vector, replicas: u64) {
+    let length = replicas.min(16) as usize;
+    vector.resize(length.max(vector.len()), 0);
+}
+
+impl Clock {
+    fn vectors_mut(&mut self) -> Vec<&mut Vector> {
+        use Clock::*;
+        match self {
+            Replicas(_) => vec![],
+            Entry(_, v) | Set(_, _, v) | Contains(_, v) | Sum(v) | Increment(_, v) | Dependencies(_, v) => vec![v],
+            Join(v, w) | Meet(v, w) | Compare(v, w) | Includes(v, w) | VersionJoin(_, v, _, w) => vec![v, w],
+        }
+    }
+}
+
 impl Call {
+    fn vector_mut(&mut self) -> Option<&mut Vector> {
+        use Call::*;
+        match self {
+            From(_, v) | Predecessors(v) | Concurrent(v) | Greatest(v) | IsCritical(v) => Some(v),
+            Seen(v) | Advance(v) | Prune(v) => Some(v),
+            Append(event) => Some(&mut event.version),
+            _ => None,
+        }
+    }
+
     pub fn changes(&self) -> bool {
         use Call::*;
         matches!(
             self,
-            New(_) | From(..) | Append(_) | Advance(_) | Prune(_) | Remove(_) | Retain(_) | Clear
+            New(_) | From(..) | Append(_) | Raise(_) | Advance(_) | Prune(_) | Remove(_) | Retain(_) | Clear
         )
     }
-}
-
-/// The lines of a text: a last one may lack its newline.
-pub fn split(text: &[u8]) -> Vec<&[u8]> {
-    let mut lines: Vec<_> = text.split(|&b| b == b'\n').collect();
-    if lines.last().is_some_and(|last| last.is_empty()) {
-        lines.pop();
-    }
-    lines
-}
-
-/// A decimal below 2^64 without sign or leading zeros.
-pub fn decimal(word: &[u8]) -> Option<u64> {
-    let plain = word.iter().all(u8::is_ascii_digit) && (word.len() == 1 || word.first() != Some(&b'0'));
-    if !plain || word.is_empty() {
-        return None;
-    }
-    std::str::from_utf8(word).ok()?.parse().ok()
-}
-
-/// A decimal below 2^32.
-fn decimal_32(word: &[u8]) -> Option<u32> {
-    decimal(word)?.try_into().ok()
-}
-
-struct Words<'a>(std::slice::Split<'a, u8, fn(&u8) -> bool>);
-
-impl<'a> Words<'a> {
-    fn number(&mut self) -> Option<u64> {
-        decimal(self.0.next()?)
-    }
-
-    fn disambiguator(&mut self) -> Option<Option<u32>> {
-        match self.0.next()? {
-            b"-" => Some(None),
-            word => Some(Some(decimal_32(word)?)),
-        }
-    }
-
-    fn id(&mut self) -> Option<Id> {
-        Some(Id {
-            replica: self.number()?,
-            sequence: self.number()?,
-            disambiguator: self.disambiguator()?,
-        })
-    }
-
-    /// The vector that ends the line.
-    fn vector(&mut self) -> Option<Vector> {
-        let entries: Vector = self.0.by_ref().map(decimal).collect::<Option<_>>()?;
-        (1..=16).contains(&entries.len()).then_some(entries)
-    }
-
-    /// The vector that ends at a bar.
-    fn vector_before_bar(&mut self) -> Option<Vector> {
-        let mut entries = Vec::new();
-        loop {
-            match self.0.next()? {
-                b"|" => break,
-                word => entries.push(decimal(word)?),
-            }
-        }
-        (1..=16).contains(&entries.len()).then_some(entries)
-    }
-
-    fn pair(&mut self) -> Option<(Vector, Vector)> {
-        Some((self.vector_before_bar()?, self.vector()?))
-    }
-
-    fn mask(&mut self) -> Option<Vec<u8>> {
-        self.0.by_ref().map(|word| decimal(word)?.try_into().ok()).collect()
-    }
-
-    fn event(&mut self) -> Option<Event> {
-        Some(Event {
-            id: self.id()?,
-            lamport: self.number()?,
-            payload: self.number()?,
-            revision: decimal_32(self.0.next()?)?,
-            version: self.vector()?,
-        })
-    }
-}
-
-/// The command that a line is, or none for a bad line.
-pub fn parse(line: &[u8]) -> Option<Command> {
-    if line.len() > LONGEST {
-        return None;
-    }
-    let is_space: fn(&u8) -> bool = |&b| b == b' ';
-    let mut words = Words(line.split(is_space));
-    let word = std::str::from_utf8(words.0.next()?).ok()?;
-    let command = if word == "room" {
-        Command::Room(usize::try_from(words.number()?).ok().filter(|&n| n <= 1024)?)
-    } else if let Some(word) = word.strip_prefix("c.") {
-        Command::Clock(clock(word, &mut words)?)
-    } else if let Some(word) = word.strip_prefix("g.") {
-        Command::Graph(graph(word, &mut words)?)
-    } else {
-        Command::History(history(word.strip_prefix("h.")?, &mut words)?)
-    };
-    words.0.next().is_none().then_some(command)
-}
-
-fn clock(word: &str, words: &mut Words) -> Option<Clock> {
-    use Clock::*;
-    let pair = |words: &mut Words, make: fn(Vector, Vector) -> Clock| words.pair().map(|(a, b)| make(a, b));
-    Some(match word {
-        "replicas" => Replicas(words.number()?),
-        "entry" => Entry(words.number()?, words.vector()?),
-        "set" => Set(words.number()?, words.number()?, words.vector()?),
-        "join" => pair(words, Join)?,
-        "meet" => pair(words, Meet)?,
-        "compare" => pair(words, Compare)?,
-        "includes" => pair(words, Includes)?,
-        "contains" => Contains(words.id()?, words.vector()?),
-        "sum" => Sum(words.vector()?),
-        "increment" => Increment(words.number()?, words.vector()?),
-        "vjoin" => VersionJoin(
-            words.number()?,
-            words.vector_before_bar()?,
-            words.number()?,
-            words.vector()?,
-        ),
-        "dependencies" => Dependencies(words.number()?, words.vector()?),
-        _ => return None,
-    })
-}
-
-fn graph(word: &str, words: &mut Words) -> Option<Call> {
-    use Call::*;
-    Some(match word {
-        "from" => From(words.number()?, words.vector()?),
-        "roots" => Roots,
-        "named" => Named,
-        "greatest" => Greatest(words.vector()?),
-        "is-critical" => IsCritical(words.vector()?),
-        "parents" => Parents(words.id()?),
-        "heads" => Heads,
-        "cuts" => Cuts,
-        "order" => Order(words.id()?),
-        "why" => Why(words.number()?),
-        "chain" => Chain(words.number()?),
-        "seen" => Seen(words.vector()?),
-        "advance" => Advance(words.vector()?),
-        "flush" => Prune(words.vector()?),
-        _ => return both(word, words),
-    })
-}
-
-fn history(word: &str, words: &mut Words) -> Option<Call> {
-    use Call::*;
-    Some(match word {
-        "version" => Version(words.id()?),
-        "last-version" => LastVersion(words.number()?),
-        "previous" => Previous(words.id()?, words.number()?),
-        "next" => Next(words.id()?, words.number()?),
-        "newly" => Newly(words.id()?),
-        "prune" => Prune(words.vector()?),
-        _ => return both(word, words),
-    })
-}
-
-fn both(word: &str, words: &mut Words) -> Option<Call> {
-    use Call::*;
-    Some(match word {
-        "new" => New(words.number()?),
-        "append" => Append(words.event()?),
-        "get" => Get(words.id()?),
-        "predecessors" => Predecessors(words.vector()?),
-        "concurrent" => Concurrent(words.vector()?),
-        "iter" => Iter,
-        "replica-events" => ReplicaEvents(words.number()?, words.number()?, words.number()?),
-        "len" => Len,
-        "is-empty" => IsEmpty,
-        "remove" => Remove(words.id()?),
-        "retain" => Retain(words.mask()?),
-        "clear" => Clear,
-        _ => return None,
-    })
 }

@@ -16,7 +16,8 @@ use crate::lines::{Event, Id};
 pub type Operation = (u64, u32);
 
 pub fn resolver(replicas: u64) -> Resolver {
-    Resolver::new((0..replicas).map(|i| ReplicaId(format!("desk{i}"))).collect())
+    let names = (0..16).map(|i| ReplicaId(format!("desk{i}"))).collect();
+    Resolver::of_first(names, replicas as usize)
 }
 
 pub fn frontier(resolver: &Resolver, entries: &[u64]) -> CausalFrontier {

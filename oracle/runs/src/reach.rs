@@ -8,7 +8,7 @@ const NOT_IN_THE_ORIGINAL: &str = "g.named";
 /// The numbers for which the original panics.
 const PANICS: [u64; 7] = [2, 9, 10, 11, 12, 13, 14];
 
-const WORDS: [(&str, &[u64]); 57] = [
+const WORDS: [(&str, &[u64]); 59] = [
     ("room", &[]),
     ("c.replicas", &[17]),
     ("c.entry", &[3, 18]),
@@ -24,6 +24,7 @@ const WORDS: [(&str, &[u64]); 57] = [
     ("c.dependencies", &[3, 16, 18]),
     ("g.new", &[17]),
     ("g.from", &[3, 17]),
+    ("g.raise", &[17, 18]),
     ("g.append", &[1, 2, 3, 4, 5, 6, 7, 8, 18, 19]),
     ("g.get", &[18]),
     ("g.predecessors", &[3, 16, 18]),
@@ -49,6 +50,7 @@ const WORDS: [(&str, &[u64]); 57] = [
     ("g.retain", &[15, 18]),
     ("g.clear", &[18]),
     ("h.new", &[17]),
+    ("h.raise", &[17, 18]),
     ("h.append", &[1, 2, 3, 8, 12, 13, 18]),
     ("h.get", &[18]),
     ("h.version", &[18]),

@@ -6,6 +6,12 @@ pub fn spaced(numbers: &[u64]) -> String {
     numbers.iter().map(u64::to_string).collect::<Vec<_>>().join(" ")
 }
 
+/// The vector without its final zeros, but with one entry at least.
+pub fn without_final_zeros(vector: &[u64]) -> &[u64] {
+    let last = vector.iter().rposition(|&entry| entry > 0).unwrap_or(0);
+    &vector[..=last]
+}
+
 pub fn id_words(id: &Id) -> String {
     match id.disambiguator {
         Some(d) => format!("{} {} {}", id.replica, id.sequence, d),

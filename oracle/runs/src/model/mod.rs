@@ -19,7 +19,7 @@ pub fn bad_count(replicas: u64) -> bool {
 }
 
 pub fn bad_vector(replicas: u64, v: &[u64]) -> bool {
-    v.len() as u64 != replicas || v.iter().any(|&entry| entry > TOP)
+    v.len() as u64 > replicas || v.iter().any(|&entry| entry > TOP)
 }
 
 /// A replica that the vector has no entry for has entry 0.
@@ -36,12 +36,18 @@ pub fn covers(v: &[u64], id: &Id) -> bool {
 }
 
 pub fn join(v: &[u64], w: &[u64]) -> Vec<u64> {
-    v.iter().zip(w).map(|(a, b)| *a.max(b)).collect()
+    let longer = v.len().max(w.len()) as u64;
+    (0..longer).map(|r| entry(v, r).max(entry(w, r))).collect()
 }
 
 /// Equal or above, entry by entry.
 pub fn at_or_above(v: &[u64], w: &[u64]) -> bool {
-    v.iter().zip(w).all(|(a, b)| a >= b)
+    (0..w.len() as u64).all(|r| entry(v, r) >= entry(w, r))
+}
+
+/// BadCount of a raise.
+pub fn bad_raise(replicas: u64, to: u64) -> bool {
+    bad_count(to) || to < replicas
 }
 
 /// BadOrigin, BadSequence and BadVector of an event.
@@ -57,7 +63,8 @@ pub fn bad_event(replicas: u64, event: &Event) -> Option<u64> {
     }
 }
 
-/// The program `probe` as PROBE.md has it.
+/// The program `probe` as PROBE.md has it. In its logs every vector is as long as there are desks.
+#[derive(Clone)]
 pub struct Probe {
     pub room: usize,
     pub clocks: Option<u64>,
@@ -78,12 +85,18 @@ impl Default for Probe {
 
 impl Probe {
     pub fn answer(&mut self, line: &[u8]) -> Answer {
-        let answer = lines::parse(line).and_then(|command| self.run(&command));
-        match answer {
+        match self.command(line).and_then(|command| self.run(&command)) {
             None => Answer::Refused(18),
             Some(answer) if answer.list_length() > self.room => Answer::Refused(16),
             Some(answer) => answer,
         }
+    }
+
+    /// The command that a line is, its vectors filled up, or none for a bad line.
+    fn command(&self, line: &[u8]) -> Option<Command> {
+        let graph = self.graph.as_ref().map(|graph| graph.replicas);
+        let history = self.history.as_ref().map(|history| history.replicas);
+        lines::parse(line)?.filled(self.clocks, graph, history)
     }
 
     fn run(&mut self, command: &Command) -> Option<Answer> {

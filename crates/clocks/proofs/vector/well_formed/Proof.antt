@@ -3,10 +3,10 @@ use mathlib.Core.Bool.{and-false, true}
 use mathlib.Core.Path.{sym, _≡_}
 use Prim.Native.Nat.{ℕ, _≤_, _<_, _-_}
 use native.Mathlib.Omega.{arith}
-use lib.Dec.{eqb, leb}
+use lib.Dec.{leb}
 use lib.ListN.{length}
 use borrow.Author.Count.{below-more}
-use borrow.Author.Tests.{le-leb, lt-leb, eq-eqb, ne-eqb}
+use borrow.Author.Tests.{le-leb, lt-leb}
 use borrow.Author.Needs.{needs}
 use Rattle.laws.proofs.Counting.{all-intro, all-fails}
 use Rattle.clocks.specs.Vectors.{wellFormed, entry, top}
@@ -21,7 +21,7 @@ abbrev μ-loop : tie.MeasureT-loop
 
 returns : tie.Need-returns Inv-loop μ-loop
 unfolding wellFormed
-returns c = rw (ne-eqb _ _ (c .if1 .taken))
+returns c = rw (lt-leb _ _ (c .if1 .taken))
 
 loop-holds : tie.Need-loop-holds Inv-loop μ-loop
 loop-holds c = (omega arith, search needs, λ k l. absurd (omega arith))
@@ -36,7 +36,7 @@ returns-2 : tie.Need-returns-2 Inv-loop μ-loop
 unfolding wellFormed
 returns-2 c = let a = c .before .before .before .before .before .args in
     rw (all-fails (λ i. leb (entry (a .v .now) i) top) (length (a .v .now)) (c .before .before .before .loop .i) (c .before .before .loop-test .taken) (lt-leb _ _ (c .if2 .taken)))
-    (sym (and-false (eqb (length (a .v .now)) (a .r))))
+    (sym (and-false (leb (length (a .v .now)) (a .r))))
 
 add-i : tie.Need-add-i Inv-loop μ-loop
 add-i c = search needs
@@ -51,7 +51,7 @@ returns-3 : tie.Need-returns-3 Inv-loop μ-loop
 unfolding wellFormed
 returns-3 c = let a = c .before .before .before .args in
     let e : c .before .loop .i ≡ length (a .v .now) = omega arith in
-    rw (eq-eqb (length (a .v .now)) (a .r) (c .before .before .if1 .left))
+    rw (le-leb (length (a .v .now)) (a .r) (c .before .before .if1 .left))
     (sym (all-intro (λ k. leb (entry (a .v .now) k) top) (length (a .v .now)) (rw (← e) (c .before .loop .inv .2))))
 
 pub well-formed-spec : {M : Type 1} → statement M

@@ -4,6 +4,7 @@ use std::collections::HashMap;
 
 use moirai_protocol::{
     broadcast::internalizer::Resolver,
+    clock::causal_frontier::CausalFrontier,
     replica::ReplicaIdx,
     state::unstable_state::{
         IsUnstableCausal, IsUnstableCore, IsUnstableDelivery, IsUnstablePrune, event_graph::EventGraph,
@@ -11,7 +12,7 @@ use moirai_protocol::{
 };
 use runs::{
     answer::Answer,
-    lines::{Call, Id, Vector},
+    lines::{Call, Id, Vector, fill},
     links::{chain, id_at, why},
     original::*,
 };
@@ -20,7 +21,7 @@ use crate::reply::*;
 
 #[derive(Clone)]
 pub struct Graph {
-    replicas: u64,
+    pub replicas: u64,
     names: Resolver,
     log: EventGraph<Operation>,
     /// Not in the original: the entrywise maximum of the checkpoint and the versions appended since creation or clear.
@@ -47,6 +48,19 @@ impl Graph {
         }
     }
 
+    fn raise(&mut self, replicas: u64) {
+        self.names.raise(replicas as usize);
+        fill(&mut self.named, replicas);
+        self.replicas = replicas;
+    }
+
+    /// The entries of a frontier that may be from before a raise.
+    fn entries(&self, frontier: &CausalFrontier) -> Vector {
+        let mut entries = entries_of_frontier(frontier);
+        fill(&mut entries, self.replicas);
+        entries
+    }
+
     /// Whether the graph holds an event of this replica.
     pub fn knows(&self, replica: u64) -> bool {
         self.log.iter().any(|event| event.id().idx().0 as u64 == replica)
@@ -68,6 +82,10 @@ impl Graph {
                     .for_each(|(n, &v)| *n = v.max(*n));
                 Answer::Done.into()
             }
+            Call::Raise(replicas) => {
+                self.raise(*replicas);
+                Answer::Done.into()
+            }
             Call::Get(id) => Answer::Event(self.log.get(&event_id(&self.names, id)).map(event_of)).into(),
             Call::Predecessors(v) => Answer::Events(events_of(self.log.predecessors(&version(v)))).into(),
             Call::Concurrent(v) => Answer::Events(events_of(self.log.concurrent(&version(v)))).into(),
@@ -78,14 +96,14 @@ impl Graph {
             }
             Call::Len => Answer::Number(self.log.len() as u64).into(),
             Call::IsEmpty => Answer::YesNo(self.log.is_empty()).into(),
-            Call::Roots => Answer::Vector(self.log.roots().map(entries_of_frontier)).into(),
+            Call::Roots => Answer::Vector(self.log.roots().map(|roots| self.entries(roots))).into(),
             Call::Named => {
                 let named = self.named.iter().map(u64::to_string).collect::<Vec<_>>();
                 Reply::Skip(format!("named {}", named.join(" ")))
             }
             Call::Greatest(v) => {
                 let greatest = self.log.greatest_critical_frontier(&frontier(v));
-                Answer::Vector(greatest.as_ref().map(entries_of_frontier)).into()
+                Answer::Vector(greatest.map(|f| self.entries(&f))).into()
             }
             Call::IsCritical(v) => Answer::YesNo(self.log.is_critical(&frontier(v))).into(),
             Call::Parents(id) => {
@@ -117,7 +135,7 @@ impl Graph {
                 let greatest = self.log.greatest_critical_frontier(&frontier(v));
                 let flushed = greatest.map(|f| {
                     let count = self.removed(|log, _| log.prune_predecessors(&f));
-                    (entries_of_frontier(&f), count)
+                    (self.entries(&f), count)
                 });
                 Answer::Advanced(flushed).into()
             }
@@ -136,10 +154,11 @@ impl Graph {
         }
     }
 
-    /// The refusals that need no rule of the log: bad events, vectors, masks and lengths.
+    /// The refusals that need no rule of the log: bad events, counts, vectors, masks and lengths.
     pub fn refusal(&self, call: &Call) -> Option<u64> {
         match call {
             Call::Append(event) => bad_event(self.replicas, event),
+            Call::Raise(replicas) => bad_raise(self.replicas, *replicas).then_some(17),
             Call::Predecessors(v) | Call::Concurrent(v) | Call::Greatest(v) => {
                 bad_vector(self.replicas, v).then_some(3)
             }

@@ -12,7 +12,7 @@ use moirai_protocol::{
 };
 use runs::{
     answer::Answer,
-    lines::{Call, Event, Id, Vector},
+    lines::{Call, Event, Id, Vector, fill},
     original::*,
 };
 
@@ -20,7 +20,7 @@ use crate::reply::*;
 
 #[derive(Clone)]
 pub struct History {
-    replicas: u64,
+    pub replicas: u64,
     names: Resolver,
     log: EventHistory<Operation>,
 }
@@ -39,6 +39,17 @@ impl History {
         }
     }
 
+    fn raise(&mut self, replicas: u64) {
+        self.names.raise(replicas as usize);
+        self.replicas = replicas;
+    }
+
+    /// The version may be from before a raise.
+    fn vector(&self, mut version: Option<Vector>) -> Answer {
+        version.iter_mut().for_each(|v| fill(v, self.replicas));
+        Answer::Vector(version)
+    }
+
     /// Answers every call but creation, where `refusal` is none.
     pub fn run(&mut self, call: &Call) -> Reply {
         let id = |id: &Id| event_id(&self.names, id);
@@ -49,9 +60,13 @@ impl History {
                 self.log.append(original_event(&self.names, event));
                 Answer::Done
             }
+            Call::Raise(replicas) => {
+                self.raise(*replicas);
+                Answer::Done
+            }
             Call::Get(e) => Answer::Event(self.log.get(&id(e)).map(event_of)),
-            Call::Version(e) => Answer::Vector(self.log.version(&id(e)).map(entries_of_version)),
-            Call::LastVersion(o) => Answer::Vector(self.last_version(*o)),
+            Call::Version(e) => self.vector(self.log.version(&id(e)).map(entries_of_version)),
+            Call::LastVersion(o) => self.vector(self.last_version(*o)),
             Call::Predecessors(v) => by_replica(events_of(self.log.predecessors(&version(v)))),
             Call::Concurrent(v) => by_replica(events_of(self.log.concurrent(&version(v)))),
             Call::Iter => by_replica(events_of(self.log.iter())),
@@ -85,10 +100,11 @@ impl History {
         answer.into()
     }
 
-    /// The refusals that need no rule of the log: bad events, vectors and masks.
+    /// The refusals that need no rule of the log: bad events, counts, vectors and masks.
     pub fn refusal(&self, call: &Call) -> Option<u64> {
         match call {
             Call::Append(event) => bad_event(self.replicas, event),
+            Call::Raise(replicas) => bad_raise(self.replicas, *replicas).then_some(17),
             Call::Predecessors(v) | Call::Concurrent(v) | Call::Prune(v) => bad_vector(self.replicas, v).then_some(3),
             Call::Retain(mask) => (mask.len() != self.log.len() || mask.iter().any(|&keep| keep > 1)).then_some(15),
             _ => None,

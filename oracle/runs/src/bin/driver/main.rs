@@ -36,19 +36,6 @@ struct Driver {
 }
 
 impl Driver {
-    /// Whether the log that the command speaks of has been made.
-    fn ready(&self, command: &Command) -> bool {
-        match command {
-            Command::Room(_)
-            | Command::Clock(Clock::Replicas(_))
-            | Command::Graph(Call::New(_) | Call::From(..))
-            | Command::History(Call::New(_)) => true,
-            Command::Clock(_) => self.clocks.is_some(),
-            Command::Graph(_) => self.graph.is_some(),
-            Command::History(_) => self.history.is_some(),
-        }
-    }
-
     /// The refusals that the driver finds by itself, before it asks the original.
     fn refusal(&self, command: &Command) -> Option<u64> {
         match command {
@@ -117,8 +104,10 @@ impl Driver {
 
     /// The command to ask the original, or what to print instead.
     fn command(&self, line: &[u8]) -> Result<Command, String> {
+        let graph = self.graph.as_ref().map(|graph| graph.replicas);
+        let history = self.history.as_ref().map(|history| history.replicas);
         let command = lines::parse(line)
-            .filter(|command| self.ready(command))
+            .and_then(|command| command.filled(self.clocks, graph, history))
             .ok_or("skip 18")?;
         match self.refusal(&command) {
             Some(number) => Err(format!("skip {number}")),

@@ -27,8 +27,12 @@ pub fn bad_count(replicas: u64) -> bool {
     !(1..=16).contains(&replicas)
 }
 
+pub fn bad_raise(replicas: u64, to: u64) -> bool {
+    bad_count(to) || to < replicas
+}
+
 pub fn bad_vector(replicas: u64, entries: &[u64]) -> bool {
-    entries.len() as u64 != replicas || entries.iter().any(|&entry| entry > TOP)
+    entries.len() as u64 > replicas || entries.iter().any(|&entry| entry > TOP)
 }
 
 /// The refusals of an event that need no log: 1, 2, 3.

@@ -1,11 +1,11 @@
-//! A history at its edges: the order of refusals, ranges, masks, boundaries, and full traces.
+//! A history at its edges: the order of refusals, ranges, masks, boundaries, desks that join, and full traces.
 
 use runs::{
     lines::TOP,
     text::{numbers_line, spaced, up_to},
 };
 
-use crate::{NUMBERS, at_each_room, vectors};
+use crate::{NUMBERS, at_each_room, raises, vectors};
 
 /// History H of document 01.
 const H: [&str; 4] = [
@@ -32,6 +32,12 @@ pub fn edges(lines: &mut Vec<String>) {
     appends(lines);
     ranges(lines);
     masks(lines);
+    raises(
+        "h",
+        &["h.iter", "h.last-version 0", "h.version 0 1 -", "h.newly 0 3 -"],
+        lines,
+    );
+    joining(lines);
     full(lines);
 }
 
@@ -116,6 +122,41 @@ fn masks(lines: &mut Vec<String>) {
             "h.iter".to_string(),
             "h.newly 0 3 -".to_string(),
         ]);
+    }
+}
+
+/// A boundary from before a raise, and vectors that leave out final zeros.
+fn joining(lines: &mut Vec<String>) {
+    for line in [
+        "h.new 1",
+        "h.append 0 1 - 1 1 1 1",
+        "h.append 0 2 - 1 1 1 2",
+        "h.prune 1",
+        "h.raise 3",
+        "h.append 2 1 - 1 1 1 2",
+        "h.append 2 1 - 1 1 1 2 0 1 0",
+        "h.append 2 1 - 1 1 1 2 0 1",
+        "h.append 3 1 - 1 1 1 2 0 0 1",
+        "h.append 0 3 - 1 1 1 3 0 1",
+        "h.append 0 4 - 1 1 1 4",
+        "h.append 0 4 - 1 1 1 4 0 2",
+        "h.raise 5",
+        "h.predecessors 3",
+        "h.concurrent 3",
+        "h.prune 2",
+        "h.append 4 1 - 1 1 1 4 0 0 0 1",
+        "h.prune 4 4 4 4 4",
+        "h.raise 7",
+        "h.append 2 2 - 1 1 1 2 0 2",
+        "h.raise 6",
+        "h.clear",
+        "h.raise 16",
+        "h.append 15 1 - 1 1 1 0 0 0 0 0 0 0 0 0 0 0 0 0 0 0 1",
+    ] {
+        lines.push(line.to_string());
+        lines.extend(["h.iter", "h.newly 0 3 -", "h.newly 0 4 -"].map(str::to_string));
+        lines.extend([0, 2, 4, 15].map(|desk| format!("h.last-version {desk}")));
+        lines.extend([0, 2, 4].map(|desk| format!("h.next 0 2 - {desk}")));
     }
 }
 

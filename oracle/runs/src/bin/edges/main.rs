@@ -2,6 +2,7 @@
 //! The last line lacks its newline.
 
 mod clocks;
+mod full;
 mod graph;
 mod history;
 
@@ -9,11 +10,11 @@ use std::io::{self, Write};
 
 use runs::{
     lines::{LONGEST, TOP},
-    text::numbers_line,
+    text::{numbers_line, spaced},
 };
 
 /// A good line of every word but the creations and `room`.
-const BEFORE: [&str; 52] = [
+const BEFORE: [&str; 54] = [
     "c.entry 0 1",
     "c.set 0 1 1",
     "c.join 1 | 1",
@@ -25,6 +26,7 @@ const BEFORE: [&str; 52] = [
     "c.increment 0 1",
     "c.vjoin 0 1 | 0 1",
     "c.dependencies 0 1",
+    "g.raise 1",
     "g.append 0 1 - 1 1 1 1",
     "g.get 0 1 -",
     "g.predecessors 1",
@@ -49,6 +51,7 @@ const BEFORE: [&str; 52] = [
     "g.remove 0 1 -",
     "g.retain 1",
     "g.clear",
+    "h.raise 1",
     "h.append 0 1 - 1 1 1 1",
     "h.get 0 1 -",
     "h.version 0 1 -",
@@ -79,9 +82,9 @@ pub fn at_each_room(question: &str, length: usize, lines: &mut Vec<String>) {
     lines.push("room 512".to_string());
 }
 
-/// Vectors of R desks at the edges: too short, right, too long, and at, below and above the top.
+/// Vectors of R desks at the edges: short, whole, too long, and at, below and above the top.
 pub fn vectors(replicas: u64) -> Vec<Vec<u64>> {
-    let mut all: Vec<Vec<u64>> = [replicas.max(2) - 1, replicas, replicas + 1]
+    let mut all: Vec<Vec<u64>> = [1, replicas.max(2) - 1, replicas, replicas + 1]
         .map(|length| vec![1; length as usize])
         .to_vec();
     for entry in [0, TOP - 1, TOP, TOP + 1, u64::MAX] {
@@ -91,6 +94,30 @@ pub fn vectors(replicas: u64) -> Vec<Vec<u64>> {
         all.push(last);
     }
     all
+}
+
+/// Every raise from every count of desks; then a log whose desks join one after the other, with versions short, too long and whole.
+pub fn raises(log: &str, look: &[&str], lines: &mut Vec<String>) {
+    for replicas in 1..=16 {
+        for to in NUMBERS.into_iter().chain([replicas - 1, replicas, replicas + 1]) {
+            lines.extend([format!("{log}.new {replicas}"), format!("{log}.raise {to}")]);
+            lines.extend(look.iter().map(|word| word.to_string()));
+        }
+    }
+    lines.push(format!("{log}.new 1"));
+    for replicas in 1..=16 {
+        let ones = |count: u64| vec![1; count as usize];
+        lines.push(format!("{log}.raise {replicas}"));
+        for version in [ones(1), ones(replicas + 1), ones(replicas)] {
+            lines.push(format!("{log}.append {} 1 - 1 1 1 {}", replicas - 1, spaced(&version)));
+        }
+        // The first desk goes on, forgetting the others and then not.
+        let next = replicas + 1;
+        for version in [vec![next], [&[next], &ones(replicas)[1..]].concat()] {
+            lines.push(format!("{log}.append 0 {next} - 1 1 1 {}", spaced(&version)));
+        }
+        lines.extend(look.iter().map(|word| word.to_string()));
+    }
 }
 
 /// Revisions at and past the edge, in both logs.

@@ -7,13 +7,12 @@ use runs::{
     text::{event_words, id_words, spaced, up_to},
 };
 
-use crate::logs::{early, orders, sibling, tops};
+use crate::logs::{early, orders, sibling, taken, tops};
 
 /// A graph that holds the log, in the lines and in the model.
-fn bring(replicas: usize, log: &[Event], lines: &mut Vec<String>) -> Probe {
+fn bring(replicas: usize, log: &[Event], raised: bool, lines: &mut Vec<String>) -> Probe {
     let mut probe = Probe::default();
-    let made = std::iter::once(format!("g.new {replicas}"));
-    for line in made.chain(log.iter().map(|event| format!("g.append {}", event_words(event)))) {
+    for line in taken("g", replicas, log.iter(), raised) {
         probe.answer(line.as_bytes());
         lines.push(line);
     }
@@ -34,7 +33,7 @@ fn of_another_revision(elder: &Event) -> String {
 
 pub fn ask(replicas: usize, log: &[Event], lines: &mut Vec<String>) {
     let bounds = up_to(&tops(replicas, log));
-    let mut probe = bring(replicas, log, lines);
+    let mut probe = bring(replicas, log, false, lines);
     look(log, lines);
     lines.extend(log.last().map(of_another_revision));
     lines.extend((0..=log.len() + 1).map(|length| format!("g.why {length}")));
@@ -50,9 +49,9 @@ pub fn ask(replicas: usize, log: &[Event], lines: &mut Vec<String>) {
     }
     let tops = spaced(bounds.last().unwrap());
     for (i, frontier) in critical.into_iter().enumerate() {
-        // The first flush is of the graph that stands.
+        // The first flush is of the graph that stands; of the others every second one is of a graph that was raised.
         if i > 0 {
-            bring(replicas, log, lines);
+            bring(replicas, log, i % 2 == 1, lines);
         }
         lines.push(format!("g.flush {}", spaced(frontier)));
         look(log, lines);
@@ -62,7 +61,7 @@ pub fn ask(replicas: usize, log: &[Event], lines: &mut Vec<String>) {
     let graph = probe.graph.unwrap();
     let inside = |bound: &&Vector| graph.greatest(bound).is_some_and(|frontier| frontier != **bound);
     if let Some(bound) = bounds.iter().find(inside) {
-        bring(replicas, log, lines);
+        bring(replicas, log, true, lines);
         lines.push(format!("g.advance {}", spaced(bound)));
         look(log, lines);
     }
@@ -71,7 +70,7 @@ pub fn ask(replicas: usize, log: &[Event], lines: &mut Vec<String>) {
 /// The orders in which some note comes too early.
 pub fn bring_early(replicas: usize, set: &[Event], lines: &mut Vec<String>) {
     for order in orders(set).into_iter().filter(|order| early(order)) {
-        bring(replicas, &order, lines);
+        bring(replicas, &order, false, lines);
         lines.extend(["g.iter", "g.named", "g.cuts", "g.heads"].map(str::to_string));
     }
 }

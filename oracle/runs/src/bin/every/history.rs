@@ -2,15 +2,10 @@
 
 use runs::{
     lines::{Event, Id, Vector},
-    text::{event_words, id_words, spaced, up_to},
+    text::{id_words, spaced, up_to},
 };
 
-use crate::logs::tops;
-
-fn bring<'a>(replicas: usize, log: impl Iterator<Item = &'a Event>, lines: &mut Vec<String>) {
-    lines.push(format!("h.new {replicas}"));
-    lines.extend(log.map(|event| format!("h.append {}", event_words(event))));
-}
+use crate::logs::{taken, tops};
 
 /// Each desk's ids from sequence 0 to one past its last.
 fn ids(tops: &Vector) -> Vec<Id> {
@@ -46,7 +41,7 @@ pub fn ask(replicas: usize, log: &[Event], lines: &mut Vec<String>) {
     // One desk after the other, the last one first: a history asks for no past.
     let mut by_desk: Vec<&Event> = log.iter().collect();
     by_desk.sort_by_key(|event| (replicas as u64 - event.id.replica, event.id.sequence));
-    bring(replicas, by_desk.into_iter(), lines);
+    lines.extend(taken("h", replicas, by_desk.into_iter(), false));
     neighbours(&ids(&tops), replicas, lines);
     for desk in 0..replicas {
         traces(desk, 0, tops[desk], lines);
@@ -54,8 +49,9 @@ pub fn ask(replicas: usize, log: &[Event], lines: &mut Vec<String>) {
     let held: Vec<Id> = log.iter().map(|event| event.id).collect();
     // A prune at zeros leaves what stands.
     lines.extend([format!("h.prune {}", spaced(&vec![0; replicas])), "h.iter".to_string()]);
-    for frontier in up_to(&tops).into_iter().skip(1) {
-        bring(replicas, log.iter(), lines);
+    for (i, frontier) in up_to(&tops).into_iter().enumerate().skip(1) {
+        // Every second history is one that was raised.
+        lines.extend(taken("h", replicas, log.iter(), i % 2 == 1));
         lines.extend([format!("h.prune {}", spaced(&frontier)), "h.iter".to_string()]);
         for desk in (0..replicas).filter(|&desk| frontier[desk] > 0) {
             traces(desk, frontier[desk], tops[desk], lines);

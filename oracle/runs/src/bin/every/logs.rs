@@ -5,7 +5,7 @@ use std::collections::BTreeMap;
 use runs::{
     lines::{Event, Id, Vector},
     model::{at_or_above, covers},
-    text::up_to,
+    text::{event_words, up_to, without_final_zeros},
 };
 
 /// The note by this id and version; its other numbers follow from these, so that a note is the same in every log.
@@ -17,6 +17,26 @@ fn note(id: Id, version: Vector) -> Event {
         id,
         version,
     }
+}
+
+/// The lines by which a log takes the notes: with all desks from the start, or each desk raised when a note first speaks of it, and vectors
+/// without final zeros.
+pub fn taken<'a>(log: &str, replicas: usize, notes: impl Iterator<Item = &'a Event>, raised: bool) -> Vec<String> {
+    let mut desks = if raised { 1 } else { replicas };
+    let mut lines = vec![format!("{log}.new {desks}")];
+    let mut raise = |to: usize, lines: &mut Vec<String>| {
+        lines.extend((to > desks).then(|| format!("{log}.raise {to}")));
+        desks = desks.max(to);
+    };
+    for mut note in notes.cloned() {
+        if raised {
+            note.version = without_final_zeros(&note.version).to_vec();
+        }
+        raise(note.version.len(), &mut lines);
+        lines.push(format!("{log}.append {}", event_words(&note)));
+    }
+    raise(replicas, &mut lines);
+    lines
 }
 
 /// The highest sequence of each desk.

@@ -3,6 +3,7 @@
 //! A *log* here is a list of up to N notes among R desks. Each note is written by a desk that has heard a set of the notes before it,
 //! any set that holds the desk's own notes and the past of each of its notes; or it is the next sibling of the note before it.
 //! So every finite way for these desks to write is listed, and each in every order in which its notes can arrive after their past.
+//! Some copies of a log start with one desk and are raised when a note first speaks of another, with vectors that leave out final zeros.
 //!
 //! - `graph`: each log, its cuts, heads and parents, a sibling of its last note with another revision, `why` and `chain` at every number,
 //!   `greatest`, `is-critical` and `seen` at every vector up to its tops, and a flush at each critical one of these vectors, with the same

@@ -15,7 +15,7 @@ fn near(random: &mut Random, vector: &[u64]) -> Vec<u64> {
     for _ in 0..random.below(3) {
         nudge(random, &mut other);
     }
-    misshape(random, other)
+    shape(random, other)
 }
 
 impl Story for Clocks {

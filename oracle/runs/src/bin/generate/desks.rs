@@ -1,7 +1,7 @@
 //! Desks that write notes and hear each other: the source of causally sound events.
 
 use runs::{
-    lines::{Event, Id, TOP},
+    lines::{Event, Id, TOP, fill},
     model::join,
     random::Random,
 };
@@ -20,6 +20,16 @@ impl Desks {
         Self {
             seen: vec![base.to_vec(); replicas as usize],
             clock: 0,
+        }
+    }
+
+    /// As many desks as there are now; a new one starts with what another has seen.
+    pub fn raise(&mut self, random: &mut Random, replicas: u64) {
+        for seen in &mut self.seen {
+            fill(seen, replicas);
+        }
+        while (self.seen.len() as u64) < replicas {
+            self.seen.push(self.some_seen(random));
         }
     }
 

@@ -5,7 +5,7 @@ mod calls;
 use runs::{
     answer::Answer,
     lines::{Event, Id, TOP},
-    model::{graph::Graph, join},
+    model::{covers, graph::Graph, join},
     random::Random,
 };
 
@@ -58,7 +58,8 @@ impl GraphStory {
             _ => (0..replicas).map(|_| random.below(3)).collect(),
         };
         let (line, base) = if random.chance(35) {
-            (format!("g.from {replicas} {}", spaced(&checkpoint)), checkpoint)
+            let said = shorten(random, checkpoint.clone());
+            (format!("g.from {replicas} {}", spaced(&said)), checkpoint)
         } else {
             let base = if random.chance(10) {
                 checkpoint
@@ -78,7 +79,7 @@ impl GraphStory {
         }
         if page.random.chance(4) {
             let v = vector(&mut page.random, replicas);
-            page.say(format!("g.from {} {}", replicas + 1, spaced(&v)));
+            page.say(format!("g.from {} {}", replicas.max(2) - 1, spaced(&v)));
         }
         page.say(line);
         self.desks = Desks::new(replicas, &base);
@@ -152,7 +153,7 @@ impl GraphStory {
         let ready = |i: usize| {
             (0..self.waiting.len()).all(|j| {
                 let id = &self.waiting[j].id;
-                j == i || self.waiting[i].version[id.replica as usize] < id.sequence
+                j == i || !covers(&self.waiting[i].version, id)
             })
         };
         let chosen = match random.below(40) {
@@ -213,14 +214,23 @@ impl GraphStory {
         match random.below(6) {
             0 => event.id.replica = event.version.len() as u64 + random.below(3),
             1 => event.id.sequence = *random.pick(&EDGES),
-            2 => event.version = misshape(random, std::mem::take(&mut event.version)),
+            2 => event.version = shape(random, std::mem::take(&mut event.version)),
             3 => event.id.disambiguator = disambiguator(random),
             _ => nudge(random, &mut event.version),
         }
     }
 
+    fn raise(&mut self, page: &mut Page) {
+        let replicas = |page: &Page| page.probe.graph.as_ref().unwrap().replicas;
+        let before = replicas(page);
+        let to = raised(&mut page.random, before);
+        page.say(format!("g.raise {to}"));
+        let now = replicas(page);
+        self.desks.raise(&mut page.random, now);
+    }
+
     fn append(&mut self, page: &mut Page, event: Event) -> bool {
-        let line = format!("g.append {}", event_words(&event));
+        let line = format!("g.append {}", append_words(&mut page.random, &event));
         self.brought.push(event);
         page.say(line) == Answer::Done
     }
@@ -233,6 +243,10 @@ impl Story for GraphStory {
             return;
         }
         self.steps -= 1;
+        if page.random.below(150) == 0 {
+            self.raise(page);
+            return;
+        }
         let filling =
             self.about == About::Full && page.probe.graph.as_ref().is_some_and(|graph| graph.held.len() < 256);
         match page.random.below(100) {

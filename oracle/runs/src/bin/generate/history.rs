@@ -64,7 +64,7 @@ impl HistoryStory {
             match random.below(6) {
                 0 => event.id.replica = replicas + random.below(3),
                 1 => event.id.sequence = *random.pick(&EDGES),
-                2 => event.version = misshape(random, event.version),
+                2 => event.version = shape(random, event.version),
                 3 => {
                     event.id.sequence += 1;
                     event.version[event.id.replica as usize] += 1;
@@ -73,11 +73,21 @@ impl HistoryStory {
                 _ => nudge(random, &mut event.version),
             }
         }
-        if page.say(format!("h.append {}", event_words(&event))) == Answer::Done {
+        let line = format!("h.append {}", append_words(&mut page.random, &event));
+        if page.say(line) == Answer::Done {
             let same = |e: &Event| e.id.replica == event.id.replica && e.id.sequence == event.id.sequence;
             self.waiting.retain(|e| !same(e));
         }
         self.brought.push(event);
+    }
+
+    fn raise(&mut self, page: &mut Page) {
+        let replicas = |page: &Page| page.probe.history.as_ref().unwrap().replicas;
+        let before = replicas(page);
+        let to = raised(&mut page.random, before);
+        page.say(format!("h.raise {to}"));
+        let now = replicas(page);
+        self.desks.raise(&mut page.random, now);
     }
 
     fn id(&self, page: &mut Page) -> Id {
@@ -124,7 +134,7 @@ impl HistoryStory {
         if random.chance(25) {
             nudge(random, &mut v);
         }
-        misshape(random, v)
+        shape(random, v)
     }
 
     fn range(&self, page: &mut Page) -> String {
@@ -232,6 +242,10 @@ impl Story for HistoryStory {
             return;
         }
         self.steps -= 1;
+        if page.random.below(150) == 0 {
+            self.raise(page);
+            return;
+        }
         match page.random.below(100) {
             0..=44 => self.bring(page),
             45..=70 if self.full => self.bring(page),

@@ -1,7 +1,11 @@
 //! Numbers, vectors and ids: mostly of the right shape, some at an edge, some past it.
 
-pub use runs::text::{event_words, id_words, spaced};
-use runs::{lines::TOP, random::Random};
+pub use runs::text::{id_words, spaced};
+use runs::{
+    lines::{Event, TOP},
+    random::Random,
+    text::{event_words, without_final_zeros},
+};
 
 pub const EDGES: [u64; 8] = [0, 1, 2, TOP - 1, TOP, TOP + 1, u64::MAX - 1, u64::MAX];
 
@@ -63,10 +67,20 @@ pub fn entry(random: &mut Random) -> u64 {
     }
 }
 
-/// In few cases the vector comes back misshapen: another length, or an entry above the top.
-pub fn misshape(random: &mut Random, mut vector: Vec<u64>) -> Vec<u64> {
+/// In some cases without final zeros, all of them or some.
+pub fn shorten(random: &mut Random, mut vector: Vec<u64>) -> Vec<u64> {
+    if random.chance(30) {
+        let least = without_final_zeros(&vector).len();
+        vector.truncate(least + random.index(vector.len() - least + 1));
+    }
+    vector
+}
+
+/// The vector as a line has it: shortened in some cases, in few misshapen. Then it has an entry above the top, or more entries than
+/// there are desks, or an entry too few, which reads as 0.
+pub fn shape(random: &mut Random, mut vector: Vec<u64>) -> Vec<u64> {
     if random.chance(95) {
-        return vector;
+        return shorten(random, vector);
     }
     let length = vector.len();
     match random.below(6) {
@@ -79,9 +93,28 @@ pub fn misshape(random: &mut Random, mut vector: Vec<u64>) -> Vec<u64> {
     vector
 }
 
+/// The words of an append, its version shortened in some cases.
+pub fn append_words(random: &mut Random, event: &Event) -> String {
+    event_words(&Event {
+        version: shorten(random, event.version.clone()),
+        ..event.clone()
+    })
+}
+
+/// What a raise may be asked for: more desks as a rule, as many as there are, fewer, or what there cannot be.
+pub fn raised(random: &mut Random, replicas: u64) -> u64 {
+    match random.below(10) {
+        0 => bad_replicas(random),
+        1 => random.below(replicas),
+        2 => replicas,
+        3 => 16,
+        _ => replicas + 1 + random.below(2),
+    }
+}
+
 pub fn vector(random: &mut Random, replicas: u64) -> Vec<u64> {
     let vector = (0..replicas).map(|_| entry(random)).collect();
-    misshape(random, vector)
+    shape(random, vector)
 }
 
 /// Moves one entry a little.

@@ -17,6 +17,7 @@ struct Figures {
     held_otherwise: u64,
     flushed: u64,
     flushed_otherwise: u64,
+    started_otherwise: u64,
     answers: u64,
 }
 
@@ -90,6 +91,7 @@ impl Figures {
         self.held_otherwise += u64::from(answered[i][0] != answered[j][0]);
         self.flushed += u64::from(!a.flushed.is_empty());
         self.flushed_otherwise += u64::from(a.flushed != b.flushed);
+        self.started_otherwise += u64::from(a.desks != b.desks);
         self.answers += set.questions.len() as u64;
     }
 
@@ -110,6 +112,10 @@ impl Figures {
             (
                 self.flushed_otherwise,
                 "of these pairs flushed at different moments or other frontiers before the last",
+            ),
+            (
+                self.started_otherwise,
+                "of these pairs started with different numbers of desks",
             ),
             (self.answers, "answers held against the other log's"),
         ] {

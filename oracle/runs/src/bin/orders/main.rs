@@ -3,8 +3,9 @@
 //!     orders lines SEED SETS              prints the lines: for each set of notes several logs, each made, filled and asked the same
 //!     orders check SEED SETS ANSWERS      holds the answers for the logs of one set against each other
 //!
-//! Two logs of a set have the same desks and checkpoint, accept the same notes and have the same last flushed frontier, or neither
-//! flushed. So what they hold, its parents and heads are the same sets, and cut lengths and critical frontiers are equal.
+//! Two logs of a set start from checkpoints that say the same, or both without, and end with the same desks; they accept the same notes and
+//! have the same last flushed frontier, or neither flushed. Vectors that differ in final zeros only say the same. So what they hold, its
+//! parents and heads are the same sets, and cut lengths and critical frontiers are equal.
 
 mod check;
 mod logs;

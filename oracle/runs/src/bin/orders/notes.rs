@@ -12,7 +12,7 @@ const MOST: usize = 12;
 pub type Group = Vec<Event>;
 
 pub struct Notes {
-    pub replicas: usize,
+    pub replicas: u64,
     pub checkpoint: Option<Vector>,
     /// In the order in which they were written.
     pub groups: Vec<Group>,
@@ -44,7 +44,7 @@ impl Notes {
         });
         let base = checkpoint.clone().unwrap_or(vec![0; replicas]);
         let mut notes = Self {
-            replicas,
+            replicas: replicas as u64,
             checkpoint,
             groups: Vec::new(),
         };
@@ -103,6 +103,11 @@ impl Notes {
             group.push(event.clone());
         }
         group
+    }
+
+    pub fn any(&self, random: &mut Random) -> &Event {
+        let group = random.pick(&self.groups);
+        random.pick(group)
     }
 
     pub fn all(&self) -> impl Iterator<Item = &Event> {

@@ -61,7 +61,7 @@ impl GraphStory {
         if random.chance(25) {
             nudge(random, &mut v);
         }
-        misshape(random, v)
+        shape(random, v)
     }
 
     /// What is just enough to have seen everything, or near it, or any vector.
@@ -74,7 +74,7 @@ impl GraphStory {
         if page.random.chance(50) {
             nudge(&mut page.random, &mut enough);
         }
-        enough
+        shorten(&mut page.random, enough)
     }
 
     pub fn ask(&self, page: &mut Page) {
@@ -135,10 +135,8 @@ impl GraphStory {
             4..=7 => {
                 let bound = self.vector(page);
                 let graph = page.probe.graph.as_ref().unwrap();
-                match graph.greatest(&bound) {
-                    Some(frontier) => format!("g.flush {}", spaced(&frontier)),
-                    None => format!("g.flush {}", spaced(&bound)),
-                }
+                let frontier = graph.greatest(&bound).unwrap_or(bound);
+                format!("g.flush {}", spaced(&shorten(&mut page.random, frontier)))
             }
             8..=9 => format!("g.flush {}", spaced(&self.vector(page))),
             10..=13 => format!("g.remove {}", id_words(&self.id(page))),
