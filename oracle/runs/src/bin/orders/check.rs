@@ -18,6 +18,8 @@ struct Figures {
     flushed: u64,
     flushed_otherwise: u64,
     started_otherwise: u64,
+    withdrawn: u64,
+    withdrawn_otherwise: u64,
     answers: u64,
 }
 
@@ -92,6 +94,8 @@ impl Figures {
         self.flushed += u64::from(!a.flushed.is_empty());
         self.flushed_otherwise += u64::from(a.flushed != b.flushed);
         self.started_otherwise += u64::from(a.desks != b.desks);
+        self.withdrawn += u64::from(!a.withdrawn.is_empty() && !b.withdrawn.is_empty());
+        self.withdrawn_otherwise += u64::from(a.withdrawn != b.withdrawn);
         self.answers += set.questions.len() as u64;
     }
 
@@ -116,6 +120,11 @@ impl Figures {
             (
                 self.started_otherwise,
                 "of these pairs started with different numbers of desks",
+            ),
+            (self.withdrawn, "of these pairs withdrew notes"),
+            (
+                self.withdrawn_otherwise,
+                "of these pairs withdrew notes at different moments, or other notes that the last flush takes",
             ),
             (self.answers, "answers held against the other log's"),
         ] {

@@ -1,28 +1,21 @@
-//! Logs that accept all notes of a set, each in its own order, with its own flushes, and with desks that join at its own moments.
+//! Logs that accept all notes of a set, each in its own order, with its own flushes, and with desks that join and notes that are withdrawn at
+//! its own moments.
 
 use runs::{
-    answer::Answer,
-    lines::{Event, Id, Vector, fill},
-    model::{Probe, at_or_above, graph::Graph, join},
+    lines::{Event, Id, Vector},
+    model::{covers, join},
     random::Random,
-    text::{event_words, id_words, spaced, without_final_zeros},
+    text::{id_words, spaced},
 };
 
-use crate::notes::{Notes, after};
+use crate::{
+    making::{Log, Making, said},
+    notes::{Group, Notes, after},
+};
 
 const LOGS: usize = 4;
 const BOUNDS: usize = 8;
-
-/// One log: how it came about.
-#[derive(Default)]
-pub struct Log {
-    pub lines: Vec<String>,
-    pub accepted: Vec<Id>,
-    /// Each flush: its frontier, and after how many accepted notes.
-    pub flushed: Vec<(Vector, usize)>,
-    /// The desks that it started with.
-    pub desks: u64,
-}
+const TRIES: usize = 8;
 
 pub struct Set {
     pub logs: Vec<Log>,
@@ -30,173 +23,141 @@ pub struct Set {
     pub questions: Vec<String>,
 }
 
-/// The vector as a line may have it with so many desks: without some of its final zeros.
-fn said(random: &mut Random, vector: &[u64], desks: u64) -> Vector {
-    let least = without_final_zeros(vector).len();
-    let most = vector.len().min(desks as usize).max(least);
-    vector[..least + random.index(most - least + 1)].to_vec()
-}
-
-/// A log in the making, and the model's opinion of it.
-struct Making<'a> {
+/// What the logs of a set have in common.
+struct Plan<'a> {
     notes: &'a Notes,
-    log: Log,
-    probe: Probe,
+    /// The notes that are withdrawn in the end.
+    withdrawn: Vec<Id>,
+    /// The frontier that is flushed last, if any, and whether the withdrawn notes have to be gone by then.
+    last: Option<Vector>,
+    gone_by_then: bool,
 }
 
-impl<'a> Making<'a> {
-    /// It starts with some of the desks, as many as the checkpoint speaks of at least.
+impl<'a> Plan<'a> {
     fn new(random: &mut Random, notes: &'a Notes) -> Self {
-        let least = match &notes.checkpoint {
-            None => 1,
-            Some(checkpoint) => without_final_zeros(checkpoint).len() as u64,
-        };
-        let desks = least + random.below(notes.replicas + 1 - least);
-        let mut making = Self {
+        let mut plain = Making::new(random, notes);
+        notes.all().for_each(|event| plain.append(random, event));
+        plain.raise(random, notes.replicas);
+        let percent = if notes.removals { *random.pick(&[10, 30, 60]) } else { 0 };
+        let withdrawn: Vec<Id> = notes.ids().into_iter().filter(|_| random.chance(percent)).collect();
+        let gone_by_then = random.chance(50);
+        if gone_by_then {
+            plain.withdraw_all(random, &withdrawn);
+        }
+        let graph = plain.graph();
+        let cuts = graph.cuts();
+        let last = (!cuts.is_empty() && random.chance(75))
+            .then(|| graph.frontier(*random.pick(&cuts).min(random.pick(&cuts))));
+        Self {
             notes,
-            log: Log {
-                desks,
-                ..Log::default()
-            },
-            probe: Probe::default(),
-        };
-        making.say(match &notes.checkpoint {
-            None => format!("g.new {desks}"),
-            Some(checkpoint) => format!("g.from {desks} {}", spaced(&said(random, checkpoint, desks))),
-        });
-        making
-    }
-
-    fn say(&mut self, line: String) -> Answer {
-        let answer = self.probe.answer(line.as_bytes());
-        self.log.lines.push(line);
-        answer
-    }
-
-    /// Says the line if it changes nothing.
-    fn say_in_vain(&mut self, line: String) {
-        let answer = self.probe.clone().answer(line.as_bytes());
-        if matches!(answer, Answer::Refused(_) | Answer::Advanced(None)) {
-            self.say(line);
+            withdrawn,
+            last,
+            gone_by_then,
         }
     }
 
-    fn graph(&self) -> &Graph {
-        self.probe.graph.as_ref().unwrap()
+    /// A log of its own way, if that leads to the last frontier; else one that withdraws and flushes nothing before the end.
+    fn log(&self, random: &mut Random) -> Log {
+        let log = (0..TRIES).find_map(|_| self.attempt(random, true));
+        log.or_else(|| self.attempt(random, false))
+            .expect("the last frontier is critical")
     }
 
-    /// As long as there will be desks at the end.
-    fn filled(&self, mut vector: Vector) -> Vector {
-        fill(&mut vector, self.notes.replicas);
-        vector
-    }
-
-    /// The words of an append, in this log as it is.
-    fn words(&self, random: &mut Random, event: &Event) -> String {
-        event_words(&Event {
-            version: said(random, &event.version, self.graph().replicas),
-            ..event.clone()
-        })
-    }
-
-    /// At least so many desks; in some cases more, or more without need.
-    fn raise(&mut self, random: &mut Random, least: u64) {
-        let now = self.graph().replicas;
-        if least > now || random.chance(5) {
-            let least = least.max(now);
-            self.say(format!(
-                "g.raise {}",
-                least + random.below(self.notes.replicas + 1 - least)
-            ));
+    /// A log that accepts the groups in some order and ends as the set's logs do; none where the last frontier is not critical then.
+    fn attempt(&self, random: &mut Random, hurried: bool) -> Option<Log> {
+        let mut making = Making::new(random, self.notes);
+        let mut waiting: Vec<usize> = (0..self.notes.groups.len()).collect();
+        let passing = if hurried { self.passing(random) } else { vec![] };
+        let often = if hurried { *random.pick(&[0, 30, 80]) } else { 0 };
+        while !waiting.is_empty() {
+            let chosen = *random.pick(&self.ready(&waiting));
+            self.bring(random, &mut making, &mut waiting, chosen, &passing);
+            if random.chance(often) {
+                self.flush_some(random, &mut making, &waiting);
+            }
         }
+        if self.gone_by_then {
+            making.withdraw_all(random, &self.withdrawn);
+        }
+        if let Some(last) = self.last.as_ref().filter(|last| !making.is_at(last)) {
+            if !making.is_critical(last) {
+                return None;
+            }
+            making.flush(random, last);
+        }
+        making.withdraw_all(random, &self.withdrawn);
+        making.raise(random, self.notes.replicas);
+        Some(making.log)
     }
 
-    fn append(&mut self, random: &mut Random, event: &Event) {
-        self.raise(random, without_final_zeros(&event.version).len() as u64);
-        let words = self.words(random, event);
-        let answer = self.say(format!("g.append {words}"));
-        assert!(answer == Answer::Done, "a note of the set is refused");
-        self.log.accepted.push(event.id);
+    /// The notes that a log may withdraw on its way: those of the set, and some that the last flush takes otherwise.
+    fn passing(&self, random: &mut Random) -> Vec<Id> {
+        let mut passing = self.withdrawn.clone();
+        if let Some(last) = self.last.as_ref().filter(|_| self.notes.removals) {
+            let flushed = self.notes.ids().into_iter().filter(|id| covers(last, id));
+            passing.extend(flushed.filter(|_| random.chance(15)));
+        }
+        passing
     }
 
-    /// A flush at the frontier, or an advance that ends there.
-    fn flush(&mut self, random: &mut Random, frontier: &Vector) {
-        let desks = self.graph().replicas;
-        let beyond = join(frontier, &self.notes.any(random).version);
-        let ends_there = |bound: &&Vector| {
-            let greatest = self.graph().greatest(bound).map(|f| self.filled(f));
-            without_final_zeros(bound).len() as u64 <= desks && greatest.as_ref() == Some(frontier)
-        };
-        let line = match [&beyond, frontier].into_iter().find(ends_there) {
-            Some(bound) if random.chance(40) => format!("g.advance {}", spaced(&said(random, bound, desks))),
-            _ => format!("g.flush {}", spaced(&said(random, frontier, desks))),
-        };
-        self.say(line);
-        let roots = self.graph().roots.clone().map(|roots| self.filled(roots));
-        assert!(roots.as_ref() == Some(frontier), "a critical frontier is refused");
-        self.log.flushed.push((frontier.clone(), self.log.accepted.len()));
+    /// The groups that speak of no other that is still to come.
+    fn ready(&self, waiting: &[usize]) -> Vec<usize> {
+        let groups = &self.notes.groups;
+        let ready = |&i: &usize| !waiting.iter().any(|&j| j != i && after(&groups[i], &groups[j]));
+        waiting.iter().copied().filter(ready).collect()
     }
 
-    /// The frontiers of the cuts that lie within the last one, and that all notes still to come have heard of.
-    fn may_flush(&self, last: &Vector, to_come: &[&Event]) -> Vec<Vector> {
-        let graph = self.graph();
-        let heard = |f: &Vector| to_come.iter().all(|event| at_or_above(&event.version, f));
-        let frontiers = graph
-            .cuts()
-            .into_iter()
-            .map(|length| self.filled(graph.frontier(length)));
-        frontiers.filter(|f| at_or_above(last, f) && heard(f)).collect()
-    }
-
-    /// A line that changes nothing: a note at a wrong moment, a flush at no critical frontier, an advance to none.
-    fn disturb(&mut self, random: &mut Random, last: Option<&Vector>) {
-        let mut event = self.notes.any(random).clone();
-        event.revision += u32::from(random.chance(30));
-        let words = self.words(random, &event);
-        let frontier = said(random, last.unwrap_or(&event.version), self.graph().replicas);
-        self.say_in_vain(format!("g.append {words}"));
-        self.say_in_vain(format!("g.flush {}", spaced(&frontier)));
-        self.say_in_vain(format!("g.advance {}", spaced(&frontier)));
-    }
-}
-
-/// A log that accepts the groups in some order, with some flushes and then one at `last`, or none at all.
-fn log(random: &mut Random, notes: &Notes, last: Option<&Vector>) -> Log {
-    let mut making = Making::new(random, notes);
-    let mut waiting: Vec<usize> = (0..notes.groups.len()).collect();
-    let often = *random.pick(&[0, 30, 80]);
-    let mut at_last = false;
-    while !waiting.is_empty() {
-        let ready = |&&i: &&usize| {
-            !waiting
-                .iter()
-                .any(|&j| j != i && after(&notes.groups[i], &notes.groups[j]))
-        };
-        let ready: Vec<usize> = waiting.iter().filter(ready).copied().collect();
-        let chosen = *random.pick(&ready);
-        waiting.retain(|&i| i != chosen);
-        for event in &notes.groups[chosen] {
+    fn bring(&self, random: &mut Random, making: &mut Making, waiting: &mut Vec<usize>, chosen: usize, passing: &[Id]) {
+        let group = &self.notes.groups[chosen];
+        for (i, event) in group.iter().enumerate() {
             if random.chance(10) {
-                making.disturb(random, last);
+                making.disturb(random, self.last.as_ref());
+            }
+            if i > 0 && random.chance(30) {
+                self.detour(random, making, waiting, chosen, passing);
             }
             making.append(random, event);
+            if random.chance(20) {
+                making.withdraw(random, passing, group.get(i + 1));
+            }
         }
-        let Some(last) = last.filter(|_| !at_last && random.chance(often)) else {
-            continue;
+        waiting.retain(|&i| i != chosen);
+    }
+
+    /// Before a sibling comes, another group that comes and goes.
+    fn detour(
+        &self,
+        random: &mut Random,
+        making: &mut Making,
+        waiting: &mut Vec<usize>,
+        chosen: usize,
+        passing: &[Id],
+    ) {
+        let passes = |group: &Group| group.iter().all(|event| passing.contains(&event.id));
+        let mut others = self.ready(waiting);
+        others.retain(|&i| i != chosen && passes(&self.notes.groups[i]));
+        if others.is_empty() {
+            return;
+        }
+        let other = *random.pick(&others);
+        let group = &self.notes.groups[other];
+        group.iter().for_each(|event| making.append(random, event));
+        let ids: Vec<Id> = group.iter().map(|event| event.id).collect();
+        making.withdraw_all(random, &ids);
+        waiting.retain(|&i| i != other);
+    }
+
+    fn flush_some(&self, random: &mut Random, making: &mut Making, waiting: &[usize]) {
+        let Some(last) = self.last.as_ref().filter(|last| !making.is_at(last)) else {
+            return;
         };
-        let to_come: Vec<&Event> = waiting.iter().flat_map(|&i| &notes.groups[i]).collect();
+        let to_come: Vec<&Event> = waiting.iter().flat_map(|&i| &self.notes.groups[i]).collect();
         let frontiers = making.may_flush(last, &to_come);
         if !frontiers.is_empty() {
             let frontier = random.pick(&frontiers).clone();
             making.flush(random, &frontier);
-            at_last = frontier == *last;
         }
     }
-    if let Some(last) = last.filter(|_| !at_last) {
-        making.flush(random, last);
-    }
-    making.raise(random, notes.replicas);
-    making.log
 }
 
 /// Bounds that tell something: the top, versions, joins of them, and what lies a little below.
@@ -222,21 +183,15 @@ fn bounds(random: &mut Random, notes: &Notes) -> Vec<Vector> {
 impl Set {
     pub fn new(random: &mut Random) -> Self {
         let notes = Notes::new(random);
-        let mut plain = Making::new(random, &notes);
-        notes.all().for_each(|event| plain.append(random, event));
-        plain.raise(random, notes.replicas);
-        let graph = plain.graph();
-        let cuts = graph.cuts();
-        let last = (!cuts.is_empty() && random.chance(75))
-            .then(|| graph.frontier(*random.pick(&cuts).min(random.pick(&cuts))));
-        let logs = (0..LOGS).map(|_| log(random, &notes, last.as_ref())).collect();
+        let plan = Plan::new(random, &notes);
+        let logs = (0..LOGS).map(|_| plan.log(random)).collect();
         let words = ["g.iter", "g.len", "g.roots", "g.named", "g.heads", "g.cuts"];
         let mut questions = words.map(str::to_string).to_vec();
-        questions.extend(notes.all().map(|event| format!("g.parents {}", id_words(&event.id))));
+        questions.extend(notes.ids().iter().map(|id| format!("g.parents {}", id_words(id))));
         for bound in bounds(random, &notes) {
             questions.push(format!("g.greatest {}", spaced(&said(random, &bound, notes.replicas))));
         }
-        questions.extend(last.map(|last| format!("g.is-critical {}", spaced(&last))));
+        questions.extend(plan.last.map(|last| format!("g.is-critical {}", spaced(&last))));
         Self { logs, questions }
     }
 

@@ -1,14 +1,16 @@
-//! Demand 3 as a test: the same notes in many orders that append accepts, with flushes in between.
+//! Demand 3 as a test: the same notes in many orders that append accepts, with flushes and removals in between.
 //!
 //!     orders lines SEED SETS              prints the lines: for each set of notes several logs, each made, filled and asked the same
 //!     orders check SEED SETS ANSWERS      holds the answers for the logs of one set against each other
 //!
 //! Two logs of a set start from checkpoints that say the same, or both without, and end with the same desks; they accept the same notes and
-//! have the same last flushed frontier, or neither flushed. Vectors that differ in final zeros only say the same. So what they hold, its
-//! parents and heads are the same sets, and cut lengths and critical frontiers are equal.
+//! have the same last flushed frontier, or neither flushed. Vectors that differ in final zeros only say the same. They withdraw the same
+//! notes, but for those that the last flush takes otherwise, and each note that they hold has the same version in both. So what they hold,
+//! its parents and heads are the same sets, and cut lengths and critical frontiers are equal.
 
 mod check;
 mod logs;
+mod making;
 mod notes;
 
 use std::io::{self, BufWriter, Write};

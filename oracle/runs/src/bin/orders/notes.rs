@@ -8,12 +8,14 @@ use runs::{
 
 const MOST: usize = 12;
 
-/// A note with its siblings, the eldest first.
+/// A note with its siblings, the eldest first. An id that comes twice is accepted, withdrawn and accepted again.
 pub type Group = Vec<Event>;
 
 pub struct Notes {
     pub replicas: u64,
     pub checkpoint: Option<Vector>,
+    /// Whether logs withdraw notes.
+    pub removals: bool,
     /// In the order in which they were written.
     pub groups: Vec<Group>,
 }
@@ -46,6 +48,7 @@ impl Notes {
         let mut notes = Self {
             replicas: replicas as u64,
             checkpoint,
+            removals: random.chance(50),
             groups: Vec::new(),
         };
         // Desks that hear much have many cuts, desks that hear little have few.
@@ -76,7 +79,7 @@ impl Notes {
         notes
     }
 
-    /// A note of this desk, and in some cases siblings, which may have heard more.
+    /// A note of this desk, and in some cases siblings, which may have heard more, or in the end less than at first.
     fn group(&self, random: &mut Random, desk: usize, seen: &[Vector], room: usize) -> Group {
         let mut event = Event {
             id: Id {
@@ -94,13 +97,20 @@ impl Notes {
             let next = event.id.disambiguator.map_or(0, |d| d + 1);
             event.id.disambiguator = Some(next + random.below(2) as u32);
             event.payload = random.below(1000);
+            let before = event.clone();
             if random.chance(25) {
                 let own = event.version[desk];
                 let other: &Vector = random.pick(seen);
                 event.version = join(&event.version, other);
                 event.version[desk] = own;
             }
-            group.push(event.clone());
+            let mut twice = [before, event.clone()];
+            if random.chance(50) {
+                twice.reverse();
+            }
+            let [first, then] = twice;
+            group.extend((self.removals && random.chance(40)).then_some(first));
+            group.push(then);
         }
         group
     }
@@ -108,6 +118,13 @@ impl Notes {
     pub fn any(&self, random: &mut Random) -> &Event {
         let group = random.pick(&self.groups);
         random.pick(group)
+    }
+
+    /// Each id once.
+    pub fn ids(&self) -> Vec<Id> {
+        let mut ids: Vec<Id> = self.all().map(|event| event.id).collect();
+        ids.dedup();
+        ids
     }
 
     pub fn all(&self) -> impl Iterator<Item = &Event> {
