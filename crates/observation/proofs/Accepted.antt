@@ -11,7 +11,7 @@ use borrow.Author.Tests.{eqb-true}
 use Rattle.laws.specs.Counting.{pick}
 use Rattle.laws.proofs.Orders.{le-or-lt, true-or-false}
 use Rattle.clocks.specs.Vectors.{entry}
-use Rattle.history.specs.Traces.{lastOf, HistoryOk, fresh, newHistory, widenedHistory}
+use Rattle.history.specs.Traces.{lastOf, HistoryOk, newHistory, widenedHistory}
 use Rattle.history.specs.Appends.{appendRefusal, appended, Appends}
 use Rattle.history.specs.Prunes.{Prunes, PrunesOr}
 use Rattle.history.proofs.Appends.{Accepted, accepted-tells}

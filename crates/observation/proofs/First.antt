@@ -1,16 +1,15 @@
 -- `first_observer` on every history that calls reached. A trace's versions never fall, so the last pruned one, which is the boundary version, covers an id
 -- exactly when some pruned one does; and then the first of all that cover it is pruned.
 use mathlib.Core.Bool.{Bool, true, false, false≢true}
-use mathlib.Core.List.{List}
-use mathlib.Core.Logic.{_↔_, ⊎-elim}
-use mathlib.Core.Path.{_≡_, refl, sym, ap, _∙_}
+use mathlib.Core.List.{List, []}
+use mathlib.Core.Logic.{⊎-elim}
+use mathlib.Core.Path.{_≡_, sym, ap, _∙_}
 use Prim.Native.Nat.{ℕ, _+_, _-_, _*_, _<_, _≤_}
 use native.Mathlib.Nat.{le-antisymm, min-le-right}
 use native.Mathlib.Decide.{ℕ-discrete}
 use native.Mathlib.Omega.{arith}
-use lib.Dec.{leb, ltb}
+use lib.Dec.{leb}
 use borrow.Author.Tests.{leb-true, le-leb, lt-ltb, le-ltb}
-use Rattle.laws.specs.Counting.{firstBelow}
 use Rattle.laws.proofs.Orders.{le-or-lt, true-or-false}
 use Rattle.clocks.specs.Vectors.{desks, entry, covers}
 use Rattle.clocks.proofs.Vectors.{covers-intro, covers-elim}
@@ -18,17 +17,17 @@ use Rattle.history.specs.Tables.{noteAt}
 use Rattle.history.specs.Traces.{replicas, prunedOf, lastOf, retainedOf, held, eventOf, versionRow, boundaryRow}
 use Rattle.history.specs.Lists.{isAbsent}
 use Rattle.history.specs.Neighbours.{firstCovering, nextOf}
-use Rattle.history.specs.First.{isObserverPruned, observer, firstObserver}
+use Rattle.history.specs.First.{observer, firstObserver}
 use Rattle.history.proofs.Tables.{row-says}
 use Rattle.history.proofs.Traces.{held-tells, held-is, event-past}
-use Rattle.history.proofs.First.{absent-no, present, first-absent, first-pruned, first-kept, pruned-own, pruned-other, pruned-nothing}
+use Rattle.history.proofs.First.{present, stray-absent, first-absent, first-pruned, first-kept, pruned-own, pruned-other, pruned-nothing}
 use Rattle.observation.specs.Reached.{Versions, Reached}
-use Rattle.observation.specs.Observation.{InPast}
+use Rattle.observation.specs.Observation.{InPast, NewlyObserves}
 use Rattle.observation.specs.First.{Observes, IsFirst, TellsFirst}
 use Rattle.clocks.specs.declared.id.EventId.{EventId}
 use Rattle.clocks.specs.declared.tagged_op.TaggedOp.{TaggedOp}
 use Rattle.history.specs.declared.event_history.EventHistory.{EventHistory}
-use Rattle.history.specs.declared.event_history.Found.the-variants.{Op, Nothing}
+use Rattle.history.specs.declared.event_history.Found.the-variants.{Op}
 use Rattle.history.specs.declared.event_history.FirstObserver.{FirstObserver}
 use Rattle.history.specs.declared.event_history.FirstObserver.the-variants.{Event, NoneYet, Pruned}
 use Rattle.observation.proofs.Carried.{known}
@@ -37,10 +36,13 @@ use Rattle.observation.proofs.Held.{row-entry, own-entry, versions-rise
 use Rattle.observation.proofs.Next.{First, one, no-one, first-of, next-own-is, next-other-is}
 use Rattle.observation.proofs.Accepted.{accepted-range, accepted-some}
 
--- ---- an id that some event has is in the past as `previous` and `next` have it
+-- ---- of a sequence that some event may have, it is the past that `previous` and `next` speak of
 
 pub observes-past : (W : Versions) (q u r s : ℕ) → 1 ≤ s → Observes W q u r s → InPast W q u r s
 observes-past W q u r s l o = record { some = l; seen = o .seen; other = o .other }
+
+pub past-observes : (W : Versions) (q u r s : ℕ) → (W q u ≡ [] → ⊥) → InPast W q u r s → Observes W q u r s
+past-observes W q u r s a p = record { accepted = a; seen = p .seen; other = p .other }
 
 -- there is one answer
 pub first-once : (W : Versions) (r s q t u : ℕ) → IsFirst W r s q t → IsFirst W r s q u → t ≡ u
@@ -192,7 +194,7 @@ module _ {h : EventHistory} {versions notes boundaries : List ℕ} {W : Versions
         ⊎-elim
         (λ (l : u ≤ prunedOf h q).
         let c = covers-intro (boundaryRow h boundaries q) id
-            (omega (arith, o .seen, versions-rise w q u (prunedOf h q) r (a .0) l below, boundary-entry (omega (arith, a .0)) r)) in
+        (omega (arith, o .seen, versions-rise w q u (prunedOf h q) r (a .0) l below, boundary-entry (omega (arith, a .0)) r)) in
         absurd (false≢true (sym (n (omega (arith, a .0))) ∙ c)))
         (λ (l : prunedOf h q < u). l) (le-or-lt u (prunedOf h q))
 
@@ -273,3 +275,29 @@ module _ {h : EventHistory} {versions notes boundaries : List ℕ} {W : Versions
 
   pub first-tells : TellsFirst h notes W (id .idx .0) (id .seq) q (firstObserver h notes versions boundaries id q)
   first-tells = tells h notes W r s q f which
+
+  -- ---- the edges
+
+  -- a replica R or above has no event
+  pub first-stray-none : replicas h ≤ q → (t : ℕ) → Observes W q t (id .idx .0) (id .seq) → ⊥
+  first-stray-none l = silent (absent-last (stray-absent h q l))
+
+  -- sequence 0 is in the past of every event, so the first of them is sequence 1
+  pub first-zero : id .seq ≡ 0 → 0 < lastOf h q → IsFirst W (id .idx .0) (id .seq) q 1
+  first-zero e l = record {
+    past = record { accepted = accepted-some w q 1 (omega arith) l; seen = omega arith; other = λ a b. omega arith };
+    first = λ u o. accepted-range w q u (o .accepted) .0;
+  }
+
+  -- of the id's own replica it is the next sequence
+  pub first-own : q ≡ id .idx .0 → id .seq < lastOf h q → IsFirst W (id .idx .0) (id .seq) q (id .seq + 1)
+  first-own z l = after z l
+
+  -- it is the event that newly observes the id
+  pub first-newly : 1 ≤ id .seq → (t : ℕ) → IsFirst W (id .idx .0) (id .seq) q t → NewlyObserves W q t (id .idx .0) (id .seq)
+  first-newly l t i = record {
+    past = observes-past W q t r s l (i .past);
+    first = λ e a b p.
+        let m = accepted-range w q t (i .past .accepted) .1 in
+        omega (arith, i .first e (past-observes W q e r s (accepted-some w q e a (omega (arith, m))) p));
+  }
