@@ -10,5 +10,6 @@ pub mod Held
 pub mod Previous
 pub mod Next
 pub mod Accepted
+pub mod FirstAnswers
 pub mod First
 pub mod Newly
