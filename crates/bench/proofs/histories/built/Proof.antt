@@ -5,10 +5,10 @@ use Rattle.bench.proofs.histories.built.Statement.{statement}
 use Rattle.bench.proofs.histories.built.Tie as tie
 
 abbrev Inv-loop : tie.InvT-loop
-Inv-loop rows n versions₀ notes₀ boundaries h₀ i₀ versions notes h i = i ≤ n
+Inv-loop rows n index₀ versions₀ notes₀ boundaries h₀ i₀ index versions notes h i = i ≤ n
 
 abbrev μ-loop : tie.MeasureT-loop
-μ-loop rows n versions₀ notes₀ boundaries h₀ i₀ versions notes h i = n - i
+μ-loop rows n index₀ versions₀ notes₀ boundaries h₀ i₀ index versions notes h i = n - i
 
 new-requires : tie.Need-new-requires Inv-loop μ-loop
 new-requires c κs = tt

@@ -5,10 +5,10 @@ use Rattle.bench.proofs.histories.port_history_get.Statement.{statement
 use Rattle.bench.proofs.histories.port_history_get.Tie as tie
 
 abbrev Inv-loop : tie.InvT-loop
-Inv-loop rows n queries m rounds notes h sum₀ k₀ sum k = k ≤ rounds
+Inv-loop rows n queries m rounds index notes h sum₀ k₀ sum k = k ≤ rounds
 
 abbrev μ-loop : tie.MeasureT-loop
-μ-loop rows n queries m rounds notes h sum₀ k₀ sum k = rounds - k
+μ-loop rows n queries m rounds index notes h sum₀ k₀ sum k = rounds - k
 
 built-requires : tie.Need-built-requires Inv-loop μ-loop
 built-requires c κs = tt
