@@ -4,6 +4,7 @@ pub mod LogOk
 pub mod AppendLog
 pub mod RemainLog
 pub mod AdvanceLog
+pub mod RaiseLog
 pub mod ReachedLog
 pub mod Documented
 pub mod DocumentedFrontiers
@@ -17,6 +18,8 @@ pub mod Pigeonhole
 pub mod Matching
 pub mod AgreeCuts
 pub mod Agreement
+pub mod RootsTold
+pub mod Standing
 pub mod WhatIsHeld
 pub mod HeldAppends
 pub mod HeldFlushes
