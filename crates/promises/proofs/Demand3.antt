@@ -1,4 +1,4 @@
--- Demand 3, from its two halves: what two such logs hold is the same, and logs that hold the same agree.
+-- Demand 3, from its two halves: what two such logs hold is the same, and logs that hold the same agree, whatever they removed.
 use mathlib.Core.List.{List}
 use mathlib.Core.Logic.{inl, inr, ⊎-elim}
 use mathlib.Core.Path.{_≡_, sym, ap, _∙_}
@@ -10,14 +10,16 @@ use Rattle.graph.specs.Raises.{widenedGraph}
 use Rattle.graph.proofs.RaiseLaws.{sized, widen-graph-cases}
 use Rattle.promises.specs.Reached.{Versions}
 use Rattle.promises.specs.Demand.{Note, Last, Start, SameLast, neither, both, Accepts, Log, begin, append, flush, advance, raise, Among, SameNote, Demand3}
+use Rattle.promises.specs.Removals.{RemovalLog, HeldIn}
 use Rattle.promises.specs.Documented.{HoldsEvent}
 use Rattle.clocks.specs.declared.event.Event.{Event}
 use Rattle.promises.proofs.LogOk.{LogOk}
-use Rattle.promises.proofs.Matching.{HeldIn}
-use Rattle.promises.proofs.Standing.{Standing, standing-ok, stands-start, stands-append, stands-flush, stands-advance, stands-raise, starts, standing-agree}
+use Rattle.promises.proofs.Standing.{Standing, standing-ok, starts}
+use Rattle.promises.proofs.SurvivesRemovals.{standing, survives-removals}
 use Rattle.promises.proofs.WhatIsHeld.{NoteAt, Contained, Holding, not-contained, start-holding}
 use Rattle.promises.proofs.HeldAppends.{append-holding}
 use Rattle.promises.proofs.HeldFlushes.{flush-holding, advance-holding}
+use Rattle.promises.specs.Removals as removals
 
 -- two slots with one note
 same-note : {g h : EventGraph} {W U : Versions} {j k : ℕ} {n m : Note} → NoteAt g W j n → NoteAt h U k m → n .event ≡ m .event → SameNote g h j k
@@ -31,9 +33,10 @@ same-note {h = h} {k = k} x y e =
       revision = a .revision ∙ sym (b .revision);
     }
 
--- a log stands; it holds accepted notes that the last flushed frontier does not contain, and all of those, each with its version
+-- a log that removes nothing by name is one that may, and stands; it holds accepted notes that the last flushed frontier does not contain, and all of those, each with its version
 pub record Kept (start g : EventGraph) (ns : List Note) (last : Last) : Type 0 where
   pub versions : Versions
+  pub log : RemovalLog start g versions ns last
   pub stands : Standing start g versions last
   pub holding : Holding g versions ns last
   pub outside : (k : ℕ) (n : Note) → NoteAt g versions k n → Contained last n → ⊥
@@ -78,31 +81,35 @@ found {h = h} {last′ = last′} l more a b j small =
     ))
     (b .holding .all (m .0) (m .1))
 
-kept-so : {start g : EventGraph} {W : Versions} {ns : List Note} {last : Last} → Standing start g W last → Holding g W ns last → Kept start g ns last
-kept-so {start} {g} {W} {ns} {last} w h = record {
-  versions = W;
-  stands = w;
-  holding = h;
-  outside = λ k n. not-contained start g W last k n (standing-ok w .notes) (w .told .roots);
-}
+kept-so : {start g : EventGraph} {W : Versions} {ns : List Note} {last : Last} → Start start → RemovalLog start g W ns last → Holding g W ns last → Kept start g ns last
+kept-so {start} {g} {W} {ns} {last} s l h =
+    let w = standing s l in
+    record {
+      versions = W;
+      log = l;
+      stands = w;
+      holding = h;
+      outside = λ k n. not-contained start g W last k n (standing-ok w .notes) (w .told .roots);
+    }
 
 pub what-is-held : {start g : EventGraph} {ns : List Note} {last : Last} → Start start → Log start g ns last → Kept start g ns last
-what-is-held s begin = kept-so (stands-start s) (start-holding s)
+what-is-held s begin = kept-so s removals.begin (start-holding s)
 what-is-held s (append l e v) =
     let w = what-is-held s l in
-    kept-so (stands-append (w .stands) e v) (append-holding _ (w .versions) _ _ (standing-ok (w .stands)) (w .holding) e v)
+    kept-so s (removals.append (w .log) e v) (append-holding _ (w .versions) _ _ (standing-ok (w .stands)) (w .holding) e v)
 what-is-held {start = start} s (flush l f) =
     let w = what-is-held s l in
-    kept-so (stands-flush (w .stands) f) (flush-holding start _ (w .versions) _ _ (standing-ok (w .stands)) (w .stands .told) (w .holding) f)
+    kept-so s (removals.flush (w .log) f) (flush-holding start _ (w .versions) _ _ (standing-ok (w .stands)) (w .stands .told) (w .holding) f)
 what-is-held {start = start} {ns = ns} s (advance {g = g} {last = last} l bound) =
     let w = what-is-held s l in
-    kept-so (stands-advance (w .stands) bound) (advance-holding start g (w .versions) ns last (standing-ok (w .stands)) (w .stands .told) (w .holding) bound)
+    kept-so s (removals.advance (w .log) bound) (advance-holding start g (w .versions) ns last (standing-ok (w .stands)) (w .stands .told) (w .holding) bound)
 what-is-held s (raise l r) =
     let w = what-is-held s l in
-    kept-so (stands-raise (w .stands) r) (raise-holding _ (w .versions) _ _ (standing-ok (w .stands)) (w .holding) r)
+    kept-so s (removals.raise (w .log) r) (raise-holding _ (w .versions) _ _ (standing-ok (w .stands)) (w .holding) r)
 
 pub demand3 : Demand3
 demand3 start start′ g h ms ns last last′ s x y same l size =
     let a = what-is-held (starts s .0) x in
     let b = what-is-held (starts s .1) y in
-    standing-agree s (a .stands) (b .stands) l size (found l (same .left) a b) (found (same-last-back l) (same .right) b a)
+    survives-removals start start′ g h (a .versions) (b .versions) ms ns last last′ s (a .log) (b .log) same l size
+    (record { left = found l (same .left) a b; right = found (same-last-back l) (same .right) b a })

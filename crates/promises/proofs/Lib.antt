@@ -1,5 +1,5 @@
--- The proofs of the statements: on every reached graph what is documented holds, two logs agree, a sheet tells ids apart, what one desk's trace
--- answers, and that no second answer fits a contract.
+-- The proofs of the statements: on every reached graph what is documented holds, two logs agree, with removals too, a sheet tells ids apart, what one
+-- desk's trace answers, and that no second answer fits a contract.
 pub mod LogOk
 pub mod AppendLog
 pub mod RemainLog
@@ -20,6 +20,9 @@ pub mod AgreeCuts
 pub mod Agreement
 pub mod RootsTold
 pub mod Standing
+pub mod SurvivesRemovals
+pub mod OtherVersionsGraphs
+pub mod OtherVersions
 pub mod WhatIsHeld
 pub mod HeldAppends
 pub mod HeldFlushes

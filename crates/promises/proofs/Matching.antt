@@ -13,13 +13,10 @@ use Rattle.graph.specs.Graphs.{parents, heads}
 use Rattle.graph.specs.Invariant.{NotesOk, replicaAt, seqAt}
 use Rattle.graph.proofs.MeaningLaws.{parent-elim, parent-intro, head-elim, head-intro}
 use Rattle.promises.specs.Reached.{Versions, versionAt}
-use Rattle.promises.specs.Demand.{Says, SameId, SameNote, Holds, SameR}
+use Rattle.promises.specs.Demand.{Says, SameId, Holds, SameR}
+use Rattle.promises.specs.Removals.{HeldIn}
 use Rattle.promises.proofs.LogOk.{LogOk}
 use Rattle.promises.proofs.Documented.{before-of, of-before}
-
--- every note of the one is held in the other, with a version that says the same
-abbrev pub HeldIn : EventGraph → Versions → EventGraph → Versions → Type 0
-HeldIn g W h U = (j : ℕ) → j < g .held → (k : ℕ) × (k < h .held) × SameNote g h j k × Says (versionAt g W j) (versionAt h U k)
 
 pub record Match (g : EventGraph) (W : Versions) (h : EventGraph) (U : Versions) : Type 0 where
   pub left : LogOk g W

@@ -12,10 +12,10 @@ use Rattle.graph.specs.Advances.{advanced}
 use Rattle.graph.specs.Raises.{widenedGraph}
 use Rattle.promises.specs.Reached.{Versions, none, withVersion, Reached}
 use Rattle.promises.specs.Demand.{Last, never, at, Start, fresh, checkpoint, SameStart, bothFresh, bothFrom, SameLast, SameR, Agree}
+use Rattle.promises.specs.Removals.{HeldIn}
 use Rattle.clocks.specs.declared.event.Event.{Event}
 use Rattle.promises.proofs.LogOk.{LogOk}
 use Rattle.promises.proofs.ReachedLog.{reached-ok}
-use Rattle.promises.proofs.Matching.{HeldIn}
 use Rattle.promises.proofs.Agreement.{agreement}
 use Rattle.promises.proofs.RootsTold.{RootsTold, same-roots, start-told, append-told, flush-told, advance-told, raise-told}
 use Rattle.promises.specs.Reached as calls
