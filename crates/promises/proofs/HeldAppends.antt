@@ -24,20 +24,17 @@ use Rattle.promises.specs.Reached.{Versions, withVersion}
 use Rattle.promises.specs.Demand.{Note, Last, never, at, Among, here, there}
 use Rattle.clocks.specs.declared.event.Event.{Event}
 use Rattle.clocks.specs.declared.id.EventId.{EventId}
-use Rattle.promises.proofs.WhatIsHeld.{NoteAt, Contained, RootsAre, Holding, note-moves}
+use Rattle.promises.proofs.RootsTold.{RootsAre}
+use Rattle.promises.proofs.WhatIsHeld.{NoteAt, Contained, Holding, note-moves}
 use Rattle.promises.proofs.LogOk.{LogOk}
 use Rattle.promises.proofs.AppendLog.{old-version, new-version}
 use Rattle.promises.proofs.DocumentedAppend.{new-event, old-note-stays}
-
-roots-stay : (start g h : EventGraph) (last : Last) → h .rooted ≡ g .rooted → h .roots ≡ g .roots → RootsAre start g last → RootsAre start h last
-roots-stay start g h never a b r = (a ∙ r .0, b ∙ r .1)
-roots-stay start g h (at f) a b r = (a ∙ r .0, b ∙ r .1, rw b (r .2))
 
 among-cases : {n m : Note} {ns : List Note} → Among n (m ∷ ns) → (n ≡ m) ⊎ Among n ns
 among-cases here = inl refl
 among-cases (there a) = inr a
 
-module _ (start g : EventGraph) (W : Versions) (ns : List Note) (last : Last) (ok : LogOk g W) (held : Holding start g W ns last) where
+module _ (g : EventGraph) (W : Versions) (ns : List Note) (last : Last) (ok : LogOk g W) (held : Holding g W ns last) where
   module _ (e : Event) (v : List ℕ) (taken : refusalOf g (e .id) (e .revision) v ≡ 0) where
     abbrev more : EventGraph
     more = pushed g e v
@@ -68,11 +65,9 @@ module _ (start g : EventGraph) (W : Versions) (ns : List Note) (last : Last) (o
         let l = a .small in
         note-moves k k n (omega arith) (old-note-stays g more e v p k l) (old-version g more W e v ok taken p k l) a
 
-    push-holding : Holding start more versions (note ∷ ns) last
+    push-holding : Holding more versions (note ∷ ns) last
     unfolding pushed
     push-holding = record {
-      size = held .size;
-      roots = roots-stay start g more last refl refl (held .roots);
       each = λ k l. elim (ℕ-discrete k (g .held)) [
         | yes z ↦ (note, here, rw z new-note)
         | no z ↦ let w = held .each k (omega arith) in (w .0, there (w .1), old-note k (w .0) (w .2))
@@ -85,7 +80,7 @@ module _ (start g : EventGraph) (W : Versions) (ns : List Note) (last : Last) (o
     }
 
   -- refused or not
-  pub append-holding : (e : Event) (v : List ℕ) → Holding start (appended g e v .graph) (pick (eqb (appended g e v .refusal) 0) (withVersion W (e .id) v) W)
+  pub append-holding : (e : Event) (v : List ℕ) → Holding (appended g e v .graph) (pick (eqb (appended g e v .refusal) 0) (withVersion W (e .id) v) W)
       (pick (eqb (appended g e v .refusal) 0) (record { event = e; version = v } ∷ ns) ns) last
   unfolding appended
   append-holding e v = ⊎-elim
@@ -93,8 +88,8 @@ module _ (start g : EventGraph) (W : Versions) (ns : List Note) (last : Last) (o
       (λ (z : eqb (refusalOf g (e .id) (e .revision) v) 0 ≡ false). rw z held) (true-or-false (eqb (refusalOf g (e .id) (e .revision) v) 0))
 
   -- an accepted note is accepted once: where it is held it is known, and where it is gone its sequence is not above roots
-  pub accepted-once : (e : Event) (v : List ℕ) (n : Note) → Among n ns → n .event .id ≡ e .id → refusalOf g (e .id) (e .revision) v ≡ 0 → ⊥
-  accepted-once e v n a same taken = ⊎-elim (gone last (held .roots))
+  pub accepted-once : (start : EventGraph) → RootsAre start g last → (e : Event) (v : List ℕ) (n : Note) → Among n ns → n .event .id ≡ e .id → refusalOf g (e .id) (e .revision) v ≡ 0 → ⊥
+  accepted-once start roots e v n a same taken = ⊎-elim (gone last roots)
       (λ (w : (k : ℕ) × NoteAt g W k n).
       let s = w .1 in
       let z = other-id g (e .id) (e .revision) v (ok .graph) taken (w .0) (s .small) in
@@ -113,4 +108,4 @@ module _ (start g : EventGraph) (W : Versions) (ns : List Note) (last : Last) (o
       gone : (last : Last) → RootsAre start g last → Contained last n → ⊥
       gone never r c = c
       gone (at f) r c =
-          omega (arith, above, r .2 (e .id .idx .0), c, ap (λ (i : EventId). i .seq) same, ap (λ (i : EventId). entry f (i .idx .0)) same)
+          omega (arith, above, r .1 (e .id .idx .0), c, ap (λ (i : EventId). i .seq) same, ap (λ (i : EventId). entry f (i .idx .0)) same)

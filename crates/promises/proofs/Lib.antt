@@ -1,9 +1,10 @@
--- The proofs of the statements: on every reached graph what is documented holds, two logs agree, a sheet tells ids apart, what one desk's trace
--- answers, and that no second answer fits a contract.
+-- The proofs of the statements: on every reached graph what is documented holds, two logs agree, with removals too, a sheet tells ids apart, what one
+-- desk's trace answers, and that no second answer fits a contract.
 pub mod LogOk
 pub mod AppendLog
 pub mod RemainLog
 pub mod AdvanceLog
+pub mod RaiseLog
 pub mod ReachedLog
 pub mod Documented
 pub mod DocumentedFrontiers
@@ -17,6 +18,11 @@ pub mod Pigeonhole
 pub mod Matching
 pub mod AgreeCuts
 pub mod Agreement
+pub mod RootsTold
+pub mod Standing
+pub mod SurvivesRemovals
+pub mod OtherVersionsGraphs
+pub mod OtherVersions
 pub mod WhatIsHeld
 pub mod HeldAppends
 pub mod HeldFlushes

@@ -13,8 +13,8 @@ use Rattle.promises.specs.Reached.{Versions, versionAt}
 pub record LogOk (g : EventGraph) (W : Versions) : Type 0 where
   pub graph : GraphOk g
   pub notes : NotesOk g
-  -- a version has R entries, its own is the sequence, and none is above what is named or below roots
-  pub long : (k : ℕ) → k < g .held → length (versionAt g W k) ≡ g .named .len
+  -- a version has at most R entries, its own is the sequence, and none is above what is named or below roots
+  pub long : (k : ℕ) → k < g .held → length (versionAt g W k) ≤ g .named .len
   pub own : (k : ℕ) → k < g .held → entry (versionAt g W k) (replicaAt g k) ≡ seqAt g k
   pub upto : (k r : ℕ) → k < g .held → entry (versionAt g W k) r ≤ entry (g .named .entries) r
   pub after : (k r : ℕ) → k < g .held → entry (g .roots .entries) r ≤ entry (versionAt g W k) r

@@ -13,22 +13,19 @@ use Rattle.graph.specs.Graphs.{parents, heads}
 use Rattle.graph.specs.Invariant.{NotesOk, replicaAt, seqAt}
 use Rattle.graph.proofs.MeaningLaws.{parent-elim, parent-intro, head-elim, head-intro}
 use Rattle.promises.specs.Reached.{Versions, versionAt}
-use Rattle.promises.specs.Demand.{SameId, SameNote, Holds}
+use Rattle.promises.specs.Demand.{Says, SameId, Holds, SameR}
+use Rattle.promises.specs.Removals.{HeldIn}
 use Rattle.promises.proofs.LogOk.{LogOk}
 use Rattle.promises.proofs.Documented.{before-of, of-before}
-
--- every note of the one is held in the other, with the same version
-abbrev pub Found : EventGraph → Versions → EventGraph → Versions → Type 0
-Found g W h U = (j : ℕ) → j < g .held → (k : ℕ) × (k < h .held) × SameNote g h j k × (versionAt g W j ≡ versionAt h U k)
 
 pub record Match (g : EventGraph) (W : Versions) (h : EventGraph) (U : Versions) : Type 0 where
   pub left : LogOk g W
   pub right : LogOk h U
-  pub size : g .named .len ≡ h .named .len
+  pub size : SameR g h
   pub rooted : g .rooted ≡ h .rooted
   pub roots : g .roots ≡ h .roots
-  pub to : Found g W h U
-  pub back : Found h U g W
+  pub to : HeldIn g W h U
+  pub back : HeldIn h U g W
 
 -- what is said of the one is said of the other
 pub swapped : {g h : EventGraph} {W U : Versions} → Match g W h U → Match h U g W
@@ -52,12 +49,13 @@ told g notes j k l m s = elim (ℕ-discrete j k) [
 ]
 
 module _ {g h : EventGraph} {W U : Versions} (m : Match g W h U) where
-  -- an id has one version in both
-  pub one-version : (j k : ℕ) → j < g .held → k < h .held → SameId g h j k → versionAt g W j ≡ versionAt h U k
+  -- the versions of an id say the same
+  pub one-version : (j k : ℕ) → j < g .held → k < h .held → SameId g h j k → Says (versionAt g W j) (versionAt h U k)
   one-version j k a b s =
       let w = m .to j a in
       let e : w .0 ≡ k = told h (m .right .notes) (w .0) k (w .1) b (same-through (same-back (w .2 .id)) s) in
-      rw e at (w .3)
+      let v : Says (versionAt g W j) (versionAt h U (w .0)) = w .3 in
+      rw e at v
 
   -- and one slot
   pub one-slot : (i j k : ℕ) → i < g .held → j < g .held → SameId g h i k → SameId g h j k → i ≡ j
@@ -86,7 +84,7 @@ module _ {g h : EventGraph} {W U : Versions} (m : Match g W h U) where
       → descends (g .pasts) i j ≡ true → descends (h .pasts) a b ≡ true
   descends-over i j a b l p q s t d =
       let x = before-of g W (m .left) i j l d in
-      let v : seqAt h b ≤ entry (versionAt h U a) (replicaAt h b) = rw (t .seq, t .replica, one-version i a l p s) at (x .covered) in
+      let v : seqAt h b ≤ entry (versionAt h U a) (replicaAt h b) = rw (t .seq, t .replica, one-version i a l p s (replicaAt h b)) at (x .covered) in
       of-before h U (m .right) a b (record { held = p; earlier = before i j a b l p q s t (x .earlier) v; covered = v })
 
 module _ {g h : EventGraph} {W U : Versions} (m : Match g W h U) where

@@ -31,6 +31,8 @@ use Rattle.clocks.proofs.causal_frontier.met_entries.Reads.{Post as met-entries
 use Rattle.clocks.proofs.causal_frontier.with_entry.Reads.{Post as with-entry}
 use Rattle.clocks.proofs.causal_frontier.CausalFrontier.new.Reads.{Post as frontier-new}
 use Rattle.clocks.proofs.causal_frontier.CausalFrontier.from_entries.Reads.{Post as frontier-from-entries}
+use Rattle.clocks.proofs.causal_frontier.is_bad_raise.Reads.{Post as is-bad-raise}
+use Rattle.clocks.proofs.causal_frontier.CausalFrontier.raise.Reads.{Post as frontier-raise}
 use Rattle.clocks.proofs.causal_frontier.CausalFrontier.zeroed.Reads.{Post as frontier-zeroed}
 use Rattle.clocks.proofs.causal_frontier.CausalFrontier.len.Reads.{Post as frontier-len}
 use Rattle.clocks.proofs.causal_frontier.CausalFrontier.is_empty.Reads.{Post as frontier-is-empty}
@@ -272,3 +274,11 @@ set-lent-once κs a x y s t p q = one-answer p q
 -- `set_by_idx` over a reference is proved by hand, and the checker reads no `Post` of it: of its contract, the number and the frontier after the call
 pub set-in-place-once : (f after after′ : CausalFrontier) (i value r r′ : ℕ) → SetInPlace f i value r after → SetInPlace f i value r′ after′ → (r ≡ r′) × (after ≡ after′)
 set-in-place-once f after after′ i value r r′ p q = (one-answer (p .refusal) (q .refusal), one-answer (p .frontier) (q .frontier))
+
+-- ---- more replicas
+
+pub is-bad-raise-once : Once is-bad-raise
+is-bad-raise-once κs a x y s t p q = one-answer p q
+
+pub frontier-raise-once : Once frontier-raise
+frontier-raise-once κs a x y s t p q = one-answer p q

@@ -1,6 +1,6 @@
 -- No second answer fits the contract of a public function of `graph`, one statement for each; `Post` as in OneAnswerClocks.antt. A list call answers the
 -- same and leaves the same in the buffer, a change the same in both tables.
-use mathlib.Core.List.{List}
+use mathlib.Core.List.{List, []}
 use mathlib.Core.Path.{_≡_, ap}
 use Prim.Native.Nat.{ℕ}
 use lib.ListN.{length}
@@ -34,6 +34,7 @@ use Rattle.graph.proofs.EventGraph.remove.Reads.{Post as remove}
 use Rattle.graph.proofs.EventGraph.retain.Reads.{Post as retain}
 use Rattle.graph.proofs.EventGraph.prune_predecessors.Reads.{Post as prune-predecessors}
 use Rattle.graph.proofs.EventGraph.advance.Reads.{Post as advance}
+use Rattle.graph.proofs.EventGraph.raise.Reads.{Post as raise}
 use Rattle.graph.proofs.EventGraph.clear.Reads.{Post as clear}
 use Rattle.graph.specs.declared.EventGraph.{EventGraph as Small}
 use Rattle.graph.specs.declared.GraphAnswer.{GraphAnswer as SmallAnswer}
@@ -163,3 +164,7 @@ clear-once κs a x y s t l m p q = removed-once x y _ _ _ _ l m (one-answer p q)
 
 pub advance-once : OnceTables advance (λ κs s. now (s .1 .1 .0)) (λ κs s. now (s .1 .1 .1 .0))
 advance-once κs a x y s t l m p q = advanced-once x y _ _ _ _ l m (one-answer p q)
+
+-- its contract speaks of any tables
+pub raise-once : Once raise
+raise-once κs a x y s t p q = ap smallAnswer (one-answer (p [] []) (q [] []))

@@ -2,6 +2,7 @@
 -- numbers are the same. A call that writes answers the same and leaves the same in every table and buffer.
 use denote.Ref.{now}
 use Rattle.history.proofs.event_history.EventHistory.new.Reads.{Post as new}
+use Rattle.history.proofs.event_history.EventHistory.raise.Reads.{Post as raise}
 use Rattle.history.proofs.event_history.EventHistory.get.Reads.{Post as get}
 use Rattle.history.proofs.event_history.EventHistory.len.Reads.{Post as len}
 use Rattle.history.proofs.event_history.EventHistory.is_empty.Reads.{Post as is-empty}
@@ -84,3 +85,6 @@ prune-predecessors-once κs a x y s t p q = prunes-or-once p q
 
 pub retain-once : OnceWith retain (λ κs s. now (s .1 .1 .1 .0))
 retain-once κs a x y s t p q = prunes-or-once p q
+
+pub history-raise-once : Once raise
+history-raise-once κs a x y s t p q = one-answer p q

@@ -5,20 +5,17 @@ use mathlib.Core.List.{List}
 use mathlib.Core.Logic.{⊎-elim}
 use mathlib.Core.Path.{_≡_, refl, sym, _∙_}
 use Prim.Native.Nat.{ℕ, _+_, _-_, _*_, _/_}
-use native.Mathlib.Nat.{min-le-right}
 use native.Mathlib.Omega.{arith}
 use lib.Dec.{eqb}
 use lib.ListN.{length}
 use borrow.Author.Tests.{eq-eqb, eqb-true}
 use Rattle.laws.proofs.Orders.{true-or-false}
-use Rattle.history.specs.Tables.{rowOf, noteAt, replaced, noted}
-use Rattle.history.specs.Traces.{replicas, newest, held, eventOf, holds, got, versionOf, isBoundary, versionWithBoundary, lastVersion, HistoryOk}
+use Rattle.history.specs.Tables.{rowOf, noteAt, withVersionAt, noted}
+use Rattle.history.specs.Traces.{newest, held, eventOf, holds, got, versionOf, isBoundary, versionWithBoundary, lastVersion, HistoryOk}
 use Rattle.history.specs.Appends.{appendRefusal, appended, Appends}
 use Rattle.history.specs.Lists.{Lists, span, isAbsent, isBadRange, rangeRefusal, eventAt}
 use Rattle.history.specs.Neighbours.{previousOf, nextOf}
-use Rattle.clocks.specs.Vectors.{desks}
-use Rattle.clocks.proofs.Vectors.{well-formed-for, well-formed-length}
-use Rattle.history.proofs.Tables.{row-in, rows-apart, length-replaced}
+use Rattle.history.proofs.Tables.{row-in, rows-apart, length-version}
 use Rattle.history.proofs.Traces.{desk-in}
 use Rattle.history.proofs.Appends.{Accepted, accepted-tells}
 use Rattle.history.proofs.Histories.{append-ok}
@@ -128,17 +125,13 @@ module _ {r : ℕ} {h : EventHistory} {notes versions boundaries : List ℕ} {g 
   abbrev row : ℕ
   row = rowOf (event .id .idx .0) (event .id .seq)
 
-  abbrev trace-other : SameTrace g versions′ boundaries (appended g (event .id)) (replaced versions′ (16 * row) v) boundaries r
+  abbrev trace-other : SameTrace g versions′ boundaries (appended g (event .id)) (withVersionAt versions′ (16 * row) v) boundaries r
   trace-other = append-other g versions′ boundaries (event .id) v (k .ok) (k .long) a r z
 
-  long-v : length v ≡ replicas g
-  long-v = well-formed-length (replicas g) v (well-formed-for (replicas g) v (event .id) (a .formed) .0)
-
-  kept-more : Kept r h notes versions boundaries (appended g (event .id)) (noted notes′ row event) (replaced versions′ (16 * row) v)
+  kept-more : Kept r h notes versions boundaries (appended g (event .id)) (noted notes′ row event) (withVersionAt versions′ (16 * row) v)
   kept-more = record {
     ok = append-ok g versions′ boundaries (event .id) v (k .ok) a;
-    long = length-replaced versions′ (16 * row) v
-        (omega (arith, k .long, long-v, min-le-right (g .len) desks, row-in (event .id .idx .0) (event .id .seq) (desk-in g (event .id .idx .0) (a .desk)))) ∙ k .long;
+    long = length-version versions′ row v (omega (arith, k .long, row-in (event .id .idx .0) (event .id .seq) (desk-in g (event .id .idx .0) (a .desk)))) ∙ k .long;
     same = record {
       trace = record {
         size = k .same .trace .size;

@@ -23,16 +23,16 @@ use Rattle.graph.proofs.RemainLaws.{was, was-held, stands}
 use Rattle.graph.proofs.RemovalCases.{picks, picks-held, stays, stays-held, remove-cases, retain-cases, flush-cases}
 use Rattle.listing.specs.Sheets.{idText, SmallTag, SmallId}
 use Rattle.listing.proofs.Telling.{text-tells-ids}
-use Rattle.promises.specs.Reached.{Versions, Reached, created, checkpointed, append, flush, advance, remove, retain, clear}
+use Rattle.graph.specs.Whole.{EventGraph, Removed}
+use Rattle.graph.proofs.RaiseLaws.{widen-graph-cases}
+use Rattle.promises.specs.Reached.{Versions, Reached, created, checkpointed, append, flush, advance, raise, remove, retain, clear}
 use Rattle.promises.specs.Printed.{PrintsApart, OfType}
 use Rattle.clocks.specs.declared.event.Event.{Event}
 use Rattle.clocks.specs.declared.id.Disambiguator.{Disambiguator}
 use Rattle.clocks.specs.declared.id.Disambiguator.the-variants.{Absent, Number}
 use Rattle.clocks.specs.declared.id.EventId.{EventId}
 use Rattle.clocks.specs.declared.tagged_op.TaggedOp.{TaggedOp}
-use Rattle.graph.specs.Whole.{EventGraph}
 use Rattle.graph.specs.declared.Found.the-variants.{Op, NotFound}
-use Rattle.graph.specs.Whole.{Removed}
 use Rattle.promises.proofs.AdvanceLog.{advance-is}
 use Rattle.promises.proofs.ReachedLog.{reached-ok, created-held, checkpointed-held}
 use Rattle.promises.proofs.Matching.{told}
@@ -84,6 +84,7 @@ reached-coded (checkpointed r v h) t = none-coded (graphs.checkpointed r v .grap
 reached-coded (append {g = g} p e v) t = append-coded g e v (reached-ok p .graph) (reached-ok p .notes) (t .0) (reached-coded p (t .1))
 reached-coded (flush {g = g} p f) t = flush-coded g f (reached-ok p .graph) (reached-coded p t)
 reached-coded (advance {g = g} {W = W} p bound) t = advance-is g W (reached-ok p) bound Left (λ f. flush-coded g f (reached-ok p .graph) (reached-coded p t)) (reached-coded p t)
+reached-coded (raise {g = g} p r) t = widen-graph-cases g r (reached-ok p .notes .oneSize) Coded (reached-coded p t) (λ a b c. reached-coded p t)
 reached-coded (remove {g = g} p id) t = remove-cases Left g id (some-coded g (reached-ok p .graph) (reached-coded p t)) (reached-coded p t)
 reached-coded (retain {g = g} p mask) t = retain-cases Left g mask (some-coded g (reached-ok p .graph) (reached-coded p t)) (reached-coded p t)
 reached-coded (clear {g = g} p) t = none-coded (cleared g .graph) (clear-held g .0)

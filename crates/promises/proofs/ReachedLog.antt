@@ -17,11 +17,13 @@ use Rattle.graph.specs.Invariant.{GraphOk, NotesOk}
 use Rattle.graph.proofs.ReachedLaws.{created-ok, checkpointed-ok, clear-ok}
 use Rattle.graph.proofs.NotesLaws.{created-notes, checkpointed-notes, clear-notes}
 use Rattle.graph.proofs.MeaningLaws.{append-held, append-refused, remove-held, retain-held, flush-held, clear-held}
-use Rattle.promises.specs.Reached.{Versions, none, withVersion, Reached, created, checkpointed, append, flush, advance, remove, retain, clear}
+use Rattle.graph.proofs.RaiseLaws.{widen-graph-cases}
+use Rattle.promises.specs.Reached.{Versions, none, withVersion, Reached, created, checkpointed, append, flush, advance, raise, remove, retain, clear}
 use Rattle.clocks.specs.declared.event.Event.{Event}
 use Rattle.promises.proofs.LogOk.{LogOk}
 use Rattle.promises.proofs.AppendLog.{push-log}
 use Rattle.promises.proofs.AdvanceLog.{advance-is}
+use Rattle.promises.proofs.RaiseLog.{raise-log}
 use Rattle.promises.proofs.RemainLog.{flush-log, remove-log, retain-log}
 use Rattle.graph.specs.Graphs as graphs
 
@@ -61,6 +63,7 @@ reached-ok (checkpointed r v h) = empty-log (graphs.checkpointed r v .graph) non
 reached-ok (append p e v) = append-log _ _ e v (reached-ok p)
 reached-ok (flush p f) = flush-log _ _ f (reached-ok p)
 reached-ok (advance {g = g} {W = W} p bound) = advance-is g W (reached-ok p) bound (λ (x : Removed). LogOk (x .graph) W) (λ f. flush-log g W f (reached-ok p)) (reached-ok p)
+reached-ok (raise {g = g} {W = W} p r) = raise-log g W r (reached-ok p)
 reached-ok (remove p id) = remove-log _ _ id (reached-ok p)
 reached-ok (retain p mask) = retain-log _ _ mask (reached-ok p)
 reached-ok (clear {g = g} p) = empty-log (cleared g .graph) none (clear-held g .0) (clear-ok g) (clear-notes g (reached-ok p .notes))
@@ -81,6 +84,8 @@ reached-count (flush {g = g} p f) = omega (arith, flush-held g f, reached-count 
 reached-count (advance {g = g} {W = W} p bound) =
     let e = advance-is g W (reached-ok p) bound (λ (x : Removed). x .graph .held + x .count ≡ g .held) (flush-held g) (omega arith) in
     omega (arith, e, reached-count p)
+reached-count (raise {g = g} {accepted = accepted} {gone = gone} p r) =
+    widen-graph-cases g r (reached-ok p .notes .oneSize) (λ (x : EventGraph). x .held + gone ≡ accepted) (reached-count p) (λ a b c. reached-count p)
 reached-count (remove {g = g} p id) = omega (arith, remove-held g id, reached-count p)
 reached-count (retain {g = g} p mask) = omega (arith, retain-held g mask, reached-count p)
 reached-count (clear {g = g} p) = rw (clear-held g .0)

@@ -17,6 +17,7 @@ use Rattle.promises.specs.Reached.{Versions, none, versionAt}
 use Rattle.promises.specs.Demand.{Note, Last, never, at, Start, fresh, checkpoint, Among, SameNote}
 use Rattle.promises.specs.Documented.{HoldsEvent}
 use Rattle.clocks.specs.declared.event.Event.{Event}
+use Rattle.promises.proofs.RootsTold.{RootsAre}
 
 -- slot k holds this note, which was last accepted with its version
 pub record NoteAt (g : EventGraph) (W : Versions) (k : ℕ) (n : Note) : Type 0 where
@@ -29,16 +30,8 @@ abbrev pub Contained : Last → Note → Type 0
 Contained never n = ⊥
 Contained (at f) n = n .event .id .seq ≤ entry f (n .event .id .idx .0)
 
--- roots are those of the start, or the last flushed frontier
-abbrev pub RootsAre : EventGraph → EventGraph → Last → Type 0
-RootsAre start g never = (g .rooted ≡ start .rooted) × (g .roots ≡ start .roots)
-RootsAre start g (at f) =
-    (g .rooted ≡ true) × (g .roots ≡ fromEntries (start .named .len) f .frontier) × ((r : ℕ) → entry (g .roots .entries) r ≡ entry f r)
-
-pub record Holding (start g : EventGraph) (W : Versions) (ns : List Note) (last : Last) : Type 0 where
-  pub size : g .named .len ≡ start .named .len
-  pub roots : RootsAre start g last
-  -- every held slot is an accepted note, and every accepted note is held or contained
+-- every held slot is an accepted note, and every accepted note is held or contained
+pub record Holding (g : EventGraph) (W : Versions) (ns : List Note) (last : Last) : Type 0 where
   pub each : (k : ℕ) → k < g .held → (n : Note) × Among n ns × NoteAt g W k n
   pub all : (n : Note) → Among n ns → Contained last n ⊎ ((k : ℕ) × NoteAt g W k n)
 
@@ -46,7 +39,7 @@ pub record Holding (start g : EventGraph) (W : Versions) (ns : List Note) (last 
 pub not-contained : (start g : EventGraph) (W : Versions) (last : Last) (k : ℕ) (n : Note) → NotesOk g → RootsAre start g last → NoteAt g W k n → Contained last n → ⊥
 not-contained start g W never k n notes r s c = c
 not-contained start g W (at f) k n notes r s c =
-    omega (arith, notes .aboveRoots k (s .small), r .2 (replicaAt g k), s .event .seq, ap (λ (i : ℕ). entry f i) (s .event .replica), c)
+    omega (arith, notes .aboveRoots k (s .small), r .1 (replicaAt g k), s .event .seq, ap (λ (i : ℕ). entry f i) (s .event .replica), c)
 
 -- an event stands in another slot of another graph as it stood
 event-moves : {g h : EventGraph} {j k : ℕ} {e : Event} → SameNote h g j k → HoldsEvent g k e → HoldsEvent h j e
@@ -68,10 +61,8 @@ note-moves j k n l s v a = record { small = l; event = event-moves s (a .event);
 none-among : {A : Type 0} {n : Note} → Among n [] → A
 none-among = elim [ ]
 
-empty-holding : (start : EventGraph) → start .held ≡ 0 → Holding start start none [] never
+empty-holding : (start : EventGraph) → start .held ≡ 0 → Holding start none [] never
 empty-holding start h = record {
-  size = refl;
-  roots = (refl, refl);
   each = λ k l. absurd (omega (arith, h));
   all = λ n a. none-among a;
 }
@@ -82,7 +73,7 @@ checkpoint-empty r v =
     ⊎-elim (λ (t : eqb (fromEntries r v .refusal) 0 ≡ true). rw t refl) (λ (f : eqb (fromEntries r v .refusal) 0 ≡ false). rw f refl)
     (true-or-false (eqb (fromEntries r v .refusal) 0))
 
-pub start-holding : {start : EventGraph} → Start start → Holding start start none [] never
+pub start-holding : {start : EventGraph} → Start start → Holding start none [] never
 unfolding created
 start-holding (fresh r e) = empty-holding (created r .graph) refl
 start-holding (checkpoint r v e) = empty-holding (checkpointed r v .graph) (checkpoint-empty r v)

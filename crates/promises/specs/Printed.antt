@@ -3,7 +3,7 @@ use mathlib.Core.Path.{_≡_}
 use Prim.Native.Nat.{ℕ}
 use Rattle.graph.specs.Graphs.{eventAt}
 use Rattle.listing.specs.Sheets.{idText, SmallTag}
-use Rattle.promises.specs.Reached.{Versions, Reached, created, checkpointed, append, flush, advance, remove, retain, clear}
+use Rattle.promises.specs.Reached.{Versions, Reached, created, checkpointed, append, flush, advance, raise, remove, retain, clear}
 use Rattle.clocks.specs.declared.tagged_op.TaggedOp.{TaggedOp}
 use Rattle.graph.specs.Whole.{EventGraph}
 use Rattle.graph.specs.declared.Found.the-variants.{Op}
@@ -19,6 +19,7 @@ OfType (checkpointed r v h) = Unit {0}
 OfType (append p e v) = SmallTag (e .id .disambiguator) × OfType p
 OfType (flush p f) = OfType p
 OfType (advance p bound) = OfType p
+OfType (raise p r) = OfType p
 OfType (remove p id) = OfType p
 OfType (retain p mask) = OfType p
 OfType (clear p) = OfType p

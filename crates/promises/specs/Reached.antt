@@ -10,6 +10,7 @@ use Rattle.clocks.specs.Ids.{codeOf}
 use Rattle.graph.specs.Whole.{EventGraph}
 use Rattle.graph.specs.Removals.{flushed, withoutId, retained, cleared}
 use Rattle.graph.specs.Advances.{advanced}
+use Rattle.graph.specs.Raises.{widenedGraph}
 use Rattle.graph.specs.Invariant.{replicaAt, seqAt, codeAt}
 use Rattle.clocks.specs.declared.event.Event.{Event}
 use Rattle.clocks.specs.declared.id.EventId.{EventId}
@@ -41,6 +42,7 @@ pub data Reached : EventGraph → Versions → ℕ → ℕ → Type 0 where
       → Reached (flushed g f .graph) W accepted (gone + flushed g f .count)
   advance : {g : EventGraph} {W : Versions} {accepted gone : ℕ} → Reached g W accepted gone → (bound : List ℕ)
       → Reached (advanced g bound .graph) W accepted (gone + advanced g bound .count)
+  raise : {g : EventGraph} {W : Versions} {accepted gone : ℕ} → Reached g W accepted gone → (r : ℕ) → Reached (widenedGraph g r .graph) W accepted gone
   remove : {g : EventGraph} {W : Versions} {accepted gone : ℕ} → Reached g W accepted gone → (id : EventId)
       → Reached (withoutId g id .graph) W accepted (gone + withoutId g id .count)
   retain : {g : EventGraph} {W : Versions} {accepted gone : ℕ} → Reached g W accepted gone → (mask : List ℕ)
