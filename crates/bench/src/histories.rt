@@ -13,6 +13,7 @@ use history::Index;
 use history::Notes;
 use history::event_history::EventHistory;
 use history::event_history::Found;
+use numbers::less;
 
 fn built(
     rows: &[usize],
@@ -26,17 +27,29 @@ fn built(
     let mut h = a.history;
     for i in 0..n {
         let note = row(rows, i);
-        let a = h.append(
-            event(note),
-            version(note),
-            index,
-            versions,
-            notes,
-            boundaries,
-        );
-        h = a.history;
+        h = grown(h, note, index, versions, notes, boundaries);
     }
     h
+}
+
+// One note more.
+fn grown(
+    h: EventHistory,
+    note: &[usize],
+    index: &mut Index,
+    versions: &mut [Seq; 8192],
+    notes: &mut Notes,
+    boundaries: &[Seq; 256],
+) -> EventHistory {
+    let a = h.append(
+        event(note),
+        version(note),
+        index,
+        versions,
+        notes,
+        boundaries,
+    );
+    a.history
 }
 
 // One more where something was found.
@@ -61,6 +74,78 @@ pub extern "C" fn port_history_append(rows: &[usize], n: usize, rounds: usize) -
     sum
 }
 
+// The note i and the fifteen before it removed, and with them all of their desks.
+fn emptied(
+    h: EventHistory,
+    rows: &[usize],
+    i: usize,
+    index: &Index,
+    versions: &[Seq; 8192],
+    boundaries: &mut [Seq; 256],
+) -> EventHistory {
+    let mut h = h;
+    for k in 0..16usize {
+        let a = h.remove(id(row(rows, less(i, k))), index, versions, boundaries);
+        h = a.history;
+    }
+    h
+}
+
+// Note i more; after each 512 notes all are removed.
+fn turned(
+    h: EventHistory,
+    rows: &[usize],
+    i: usize,
+    index: &mut Index,
+    versions: &mut [Seq; 8192],
+    notes: &mut Notes,
+    boundaries: &mut [Seq; 256],
+) -> EventHistory {
+    let h = grown(h, row(rows, i), index, versions, notes, boundaries);
+    if i % 512 != 511 {
+        return h;
+    }
+    emptied(h, rows, i, index, versions, boundaries)
+}
+
+// All notes, with no more than 512 held: from the second turn on every row is given again.
+fn in_turns(
+    rows: &[usize],
+    n: usize,
+    index: &mut Index,
+    versions: &mut [Seq; 8192],
+    notes: &mut Notes,
+    boundaries: &mut [Seq; 256],
+) -> EventHistory {
+    let a = EventHistory::new(16);
+    let mut h = a.history;
+    for i in 0..n {
+        h = turned(h, rows, i, index, versions, notes, boundaries);
+    }
+    h
+}
+
+#[no_mangle]
+pub extern "C" fn port_history_again(rows: &[usize], n: usize, rounds: usize) -> usize {
+    let mut index = [0u16; 8192];
+    let mut versions = [0; 8192];
+    let mut notes = [0u64; 2560];
+    let mut boundaries = [0; 256];
+    let mut sum: usize = 0;
+    for k in 0..rounds {
+        let h = in_turns(
+            rows,
+            n,
+            &mut index,
+            &mut versions,
+            &mut notes,
+            &mut boundaries,
+        );
+        sum = std::num::wrapping_add_usize(sum, h.len());
+    }
+    sum
+}
+
 #[no_mangle]
 pub extern "C" fn port_history_get(
     rows: &[usize],
@@ -74,9 +159,20 @@ pub extern "C" fn port_history_get(
     let mut notes = [0u64; 2560];
     let boundaries = [0; 256];
     let h = built(rows, n, &mut index, &mut versions, &mut notes, &boundaries);
+    get_rounds(h, queries, m, rounds, &index, &notes)
+}
+
+fn get_rounds(
+    h: EventHistory,
+    queries: &[usize],
+    m: usize,
+    rounds: usize,
+    index: &Index,
+    notes: &Notes,
+) -> usize {
     let mut sum: usize = 0;
     for k in 0..rounds {
-        sum = found(sum, h.get(id(asked(queries, k, m)), &index, &notes));
+        sum = found(sum, h.get(id(asked(queries, k, m)), index, notes));
     }
     sum
 }
@@ -94,11 +190,24 @@ pub extern "C" fn port_history_version(
     let mut notes = [0u64; 2560];
     let boundaries = [0; 256];
     let h = built(rows, n, &mut index, &mut versions, &mut notes, &boundaries);
+    version_rounds(h, queries, m, rounds, &index, &notes, &versions)
+}
+
+fn version_rounds(
+    h: EventHistory,
+    queries: &[usize],
+    m: usize,
+    rounds: usize,
+    index: &Index,
+    notes: &Notes,
+    versions: &[Seq; 8192],
+) -> usize {
     let mut sum: usize = 0;
     for k in 0..rounds {
         sum = std::num::wrapping_add_usize(
             sum,
-            h.version(id(asked(queries, k, m)), &index, &notes, &versions).len(),
+            h.version(id(asked(queries, k, m)), index, notes, versions)
+                .len(),
         );
     }
     sum
@@ -188,9 +297,23 @@ pub extern "C" fn port_history_predecessors(
     let mut notes = [0u64; 2560];
     let boundaries = [0; 256];
     let h = built(rows, n, &mut index, &mut versions, &mut notes, &boundaries);
+    predecessors_rounds(h, queries, m, rounds, &index, out)
+}
+
+fn predecessors_rounds(
+    h: EventHistory,
+    queries: &[usize],
+    m: usize,
+    rounds: usize,
+    index: &Index,
+    out: &mut [usize],
+) -> usize {
     let mut sum: usize = 0;
     for k in 0..rounds {
-        sum = counted(sum, h.predecessors(version(asked(queries, k, m)), &index, out));
+        sum = counted(
+            sum,
+            h.predecessors(version(asked(queries, k, m)), index, out),
+        );
     }
     sum
 }
@@ -209,9 +332,20 @@ pub extern "C" fn port_history_concurrent(
     let mut notes = [0u64; 2560];
     let boundaries = [0; 256];
     let h = built(rows, n, &mut index, &mut versions, &mut notes, &boundaries);
+    concurrent_rounds(h, queries, m, rounds, &index, out)
+}
+
+fn concurrent_rounds(
+    h: EventHistory,
+    queries: &[usize],
+    m: usize,
+    rounds: usize,
+    index: &Index,
+    out: &mut [usize],
+) -> usize {
     let mut sum: usize = 0;
     for k in 0..rounds {
-        sum = counted(sum, h.concurrent(version(asked(queries, k, m)), &index, out));
+        sum = counted(sum, h.concurrent(version(asked(queries, k, m)), index, out));
     }
     sum
 }
@@ -249,10 +383,24 @@ pub extern "C" fn port_history_replica_events(
     let mut notes = [0u64; 2560];
     let boundaries = [0; 256];
     let h = built(rows, n, &mut index, &mut versions, &mut notes, &boundaries);
+    replica_events_rounds(h, queries, m, rounds, &index, out)
+}
+
+fn replica_events_rounds(
+    h: EventHistory,
+    queries: &[usize],
+    m: usize,
+    rounds: usize,
+    index: &Index,
+    out: &mut [usize],
+) -> usize {
     let mut sum: usize = 0;
     for k in 0..rounds {
         let note = asked(queries, k, m);
-        sum = counted(sum, h.replica_events(replica(note), 0, seq(note), &index, out));
+        sum = counted(
+            sum,
+            h.replica_events(replica(note), 0, seq(note), index, out),
+        );
     }
     sum
 }

@@ -44,7 +44,10 @@ fn tables_digest(
     notes: &Notes,
     boundaries: &[Seq; 256],
 ) -> u64 {
-    digest(versions) ^ (words_digest(notes) << 1) ^ (digest(boundaries) << 2) ^ (rows_digest(index) << 3)
+    digest(versions)
+        ^ (words_digest(notes) << 1)
+        ^ (digest(boundaries) << 2)
+        ^ (rows_digest(index) << 3)
 }
 
 pub fn answer(
@@ -107,16 +110,7 @@ fn changed(
     boundaries: &mut [Seq; 256],
 ) -> Traced {
     let before = tables_digest(index, versions, notes, boundaries);
-    let c = changes::called(
-        word,
-        t,
-        kinds,
-        values,
-        index,
-        versions,
-        notes,
-        boundaries,
-    );
+    let c = changes::called(word, t, kinds, values, index, versions, notes, boundaries);
     let after = tables_digest(index, versions, notes, boundaries);
     let answer = c.answer;
     let traces = c.traces;

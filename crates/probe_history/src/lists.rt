@@ -56,12 +56,7 @@ fn called<'a>(
 }
 
 // `h.replica-events O A B`
-fn replica_events(
-    h: EventHistory,
-    values: &[usize],
-    index: &Index,
-    list: &mut [usize],
-) -> Listed {
+fn replica_events(h: EventHistory, values: &[usize], index: &Index, list: &mut [usize]) -> Listed {
     let origin = ReplicaIdx(entry(values, 0));
     h.replica_events(origin, entry(values, 1), entry(values, 2), index, list)
 }
@@ -113,7 +108,17 @@ fn lent<'a>(
     notes: &Notes,
     boundaries: &'a [Seq; 256],
 ) -> usize {
-    let answer = called(word, h, kinds, values, list, index, versions, notes, boundaries);
+    let answer = called(
+        word,
+        h,
+        kinds,
+        values,
+        list,
+        index,
+        versions,
+        notes,
+        boundaries,
+    );
     told(h, answer, list, out, at, index, notes)
 }
 

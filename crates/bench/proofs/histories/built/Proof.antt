@@ -19,14 +19,8 @@ loop-holds c = search needs
 row-requires : tie.Need-row-requires Inv-loop μ-loop
 row-requires c κs = tt
 
-event-requires : tie.Need-event-requires Inv-loop μ-loop
-event-requires c κs = tt
-
-version-requires : tie.Need-version-requires Inv-loop μ-loop
-version-requires c κs = tt
-
-append-requires : tie.Need-append-requires Inv-loop μ-loop
-append-requires c κs = tt
+grown-requires : tie.Need-grown-requires Inv-loop μ-loop
+grown-requires c κs = tt
 
 add-i : tie.Need-add-i Inv-loop μ-loop
 add-i c = search needs
@@ -49,9 +43,7 @@ built-spec =
     new-requires
     loop-holds
     row-requires
-    event-requires
-    version-requires
-    append-requires
+    grown-requires
     add-i
     loop-less
     loop-again
