@@ -14,8 +14,8 @@ use Rattle.laws.proofs.Lists.{length-tabulate, getD-tabulate}
 use Rattle.history.specs.Whole.{EventHistory}
 use Rattle.history.specs.Tables.{rowOf, noteAt, withVersionAt, noted}
 use Rattle.history.specs.Traces.{retainedOf, held, eventOf, holds, got, versionOf, lastVersion}
-use Rattle.history.specs.Rooms.{givenRow, HistoryOk}
-use Rattle.history.specs.Appends.{appendRefusal, appended, Appends, SameTrace}
+use Rattle.history.specs.Rooms.{givenRow, HistoryOk, NotesOk}
+use Rattle.history.specs.Appends.{appendRefusal, appended, Appends}
 use Rattle.history.specs.Lists.{Lists, span, isAbsent, isBadRange, rangeRefusal, eventAt}
 use Rattle.history.specs.Neighbours.{previousOf, nextOf}
 use Rattle.history.proofs.Tables.{length-version}
@@ -23,8 +23,8 @@ use Rattle.history.proofs.Rooms.{given-in}
 use Rattle.history.proofs.Appends.{Accepted, accepted-tells}
 use Rattle.history.proofs.Histories.{append-ok}
 use Rattle.history.proofs.Lists.{range-held}
-use Rattle.history.proofs.Own.{same-held, same-last, ButFull, append-own-but, few-own, append-other}
-use Rattle.history.proofs.Notes.{NotesOk, append-notes, kept-note, event-at-row}
+use Rattle.history.proofs.Own.{SameTrace, same-held, same-last, ButFull, append-own-but, few-own, append-other}
+use Rattle.history.proofs.Notes.{append-notes, kept-note, event-at-row}
 use Rattle.clocks.specs.declared.event.Event.{Event}
 use Rattle.clocks.specs.declared.id.EventId.{EventId}
 use Rattle.clocks.specs.declared.id.Disambiguator.{Disambiguator}
