@@ -31,7 +31,7 @@ pub next-own-is : (h : EventHistory) (notes versions : List ℕ) (id : EventId) 
 unfolding nextOf
 next-own-is h notes versions id = rw (eq-eqb (id .idx .0) (id .idx .0) refl)
 
-next-other-is : (h : EventHistory) (notes versions : List ℕ) (id : EventId) (q : ℕ) → (q ≡ id .idx .0 → ⊥)
+pub next-other-is : (h : EventHistory) (notes versions : List ℕ) (id : EventId) (q : ℕ) → (q ≡ id .idx .0 → ⊥)
     → nextOf h notes versions id q ≡ eventOf h notes q (firstCovering h versions id q)
 unfolding nextOf
 next-other-is h notes versions id q z = rw (ne-eqb q (id .idx .0) z)
@@ -59,7 +59,7 @@ next-once h W r s q t u a b = le-antisymm (a .first u (b .kept) (b .past)) (b .f
 
 -- ---- the first number that satisfies a test, or none
 
-data First (p : ℕ → Bool) (n : ℕ) : Type 0 where
+pub data First (p : ℕ → Bool) (n : ℕ) : Type 0 where
   one : (i : ℕ) → i < n → p i ≡ true → ((j : ℕ) → j < i → p j ≡ false) → firstBelow p n ≡ i → First p n
   no-one : ((j : ℕ) → j < n → p j ≡ false) → firstBelow p n ≡ n → First p n
 
@@ -73,7 +73,7 @@ first-from p n (suc d) m e h = ⊎-elim
     (λ (f : p m ≡ false). first-from p n d (suc m) (omega arith) (λ j l. elim (ℕ-discrete j m) [ yes q ↦ rw q f | no q ↦ h j (omega arith) ]))
     (true-or-false (p m))
 
-first-of : (p : ℕ → Bool) (n : ℕ) → First p n
+pub first-of : (p : ℕ → Bool) (n : ℕ) → First p n
 first-of p n = first-from p n n 0 (omega arith) (λ j l. absurd (omega arith))
 
 module _ {h : EventHistory} {versions notes boundaries : List ℕ} {W : Versions} {accepted gone : ℕ} (w : Reached h versions notes boundaries W accepted gone) (id : EventId) where

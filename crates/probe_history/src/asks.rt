@@ -3,6 +3,7 @@ use clocks::refusal::BAD_LINE;
 use clocks::replica::ReplicaIdx;
 use clocks::vector::Seq;
 use history::event_history::EventHistory;
+use history::event_history::FirstObserver;
 use history::event_history::Found;
 use numbers::entry;
 use probe_text::answers::Answer;
@@ -20,9 +21,11 @@ const LEN: usize = 3;
 
 const IS_EMPTY: usize = 4;
 
+const FIRST: usize = 5;
+
 fn word(line: &[u8], kinds: &[u8], values: &[usize]) -> usize {
     row(
-        b"h.get:i h.previous:in h.next:in h.len: h.is-empty:",
+        b"h.get:i h.previous:in h.next:in h.len: h.is-empty: h.first:in",
         line,
         kinds,
         values,
@@ -36,6 +39,7 @@ pub fn asked(
     values: &[usize],
     versions: &[Seq; 8192],
     notes: &[u64; 2048],
+    boundaries: &[Seq; 256],
 ) -> Answer {
     let id = id(kinds, values);
     let r = ReplicaIdx(entry(values, 3));
@@ -45,6 +49,7 @@ pub fn asked(
         NEXT => found(h.next(id, r, versions, notes)),
         LEN => Answer::Number(h.len()),
         IS_EMPTY => yes_no(h.is_empty()),
+        FIRST => first(h.first_observer(id, r, versions, notes, boundaries)),
         _ => Answer::Bare(BAD_LINE),
     }
 }
@@ -53,5 +58,13 @@ fn found(f: Found) -> Answer {
     match f {
         Found::Op(op) => Answer::Event(op),
         Found::Nothing => Answer::Absent,
+    }
+}
+
+fn first(f: FirstObserver) -> Answer {
+    match f {
+        FirstObserver::Event(op) => Answer::Event(op),
+        FirstObserver::NoneYet => Answer::Absent,
+        FirstObserver::Pruned => Answer::Pruned,
     }
 }

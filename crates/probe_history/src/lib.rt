@@ -144,6 +144,6 @@ fn asked<'a>(
         let row = rows::called(word, h, kinds, values, versions, notes, boundaries);
         return answers::vector(out, at, row, row.len());
     }
-    let answer = asks::asked(h, line, kinds, values, versions, notes);
+    let answer = asks::asked(h, line, kinds, values, versions, notes, boundaries);
     answers::told(out, at, answer, false)
 }

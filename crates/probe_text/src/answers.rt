@@ -19,6 +19,7 @@ pub enum Answer {
     Compared(Comparison),
     Cut,
     Ids(EventId, EventId),
+    Pruned,
 }
 
 pub fn yes_no(yes: bool) -> Answer {
@@ -109,6 +110,7 @@ fn rest(out: &mut [u8], at: usize, a: Answer) -> usize {
         Answer::Compared(c) => comparison(out, at, c),
         Answer::Cut => put(out, at, b" cut"),
         Answer::Ids(first, second) => ids(out, at, first, second),
+        Answer::Pruned => put(out, at, b" pruned"),
     }
 }
 

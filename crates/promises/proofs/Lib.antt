@@ -35,6 +35,7 @@ pub mod OneAnswerNumbers
 pub mod OneAnswerClocks
 pub mod OneAnswerPositions
 pub mod OneAnswerHistory
+pub mod OneAnswerFirst
 pub mod OneAnswerGraph
 pub mod OneAnswerWhy
 pub mod OneAnswerTables

@@ -80,6 +80,7 @@ pub enum Call {
     LastVersion(u64),
     Previous(Id, u64),
     Next(Id, u64),
+    First(Id, u64),
     Newly(Id),
     Prune(Vector),
     Remove(Id),

@@ -8,7 +8,7 @@ const NOT_IN_THE_ORIGINAL: &str = "g.named";
 /// The numbers for which the original panics.
 const PANICS: [u64; 7] = [2, 9, 10, 11, 12, 13, 14];
 
-const WORDS: [(&str, &[u64]); 59] = [
+const WORDS: [(&str, &[u64]); 60] = [
     ("room", &[]),
     ("c.replicas", &[17]),
     ("c.entry", &[3, 18]),
@@ -63,6 +63,7 @@ const WORDS: [(&str, &[u64]); 59] = [
     ("h.is-empty", &[18]),
     ("h.previous", &[18]),
     ("h.next", &[18]),
+    ("h.first", &[18]),
     ("h.newly", &[16, 18]),
     ("h.prune", &[3, 18]),
     ("h.remove", &[18]),

@@ -157,6 +157,7 @@ fn history(word: &str, words: &mut Words) -> Option<Call> {
         "last-version" => LastVersion(words.number()?),
         "previous" => Previous(words.id()?, words.number()?),
         "next" => Next(words.id()?, words.number()?),
+        "first" => First(words.id()?, words.number()?),
         "newly" => Newly(words.id()?),
         "prune" => Prune(words.vector()?),
         _ => return both(word, words),

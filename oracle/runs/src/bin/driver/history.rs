@@ -7,6 +7,8 @@ use std::collections::HashMap;
 
 use moirai_protocol::{
     broadcast::internalizer::Resolver,
+    clock::version_vector::Version,
+    event::id::EventId,
     replica::ReplicaIdx,
     state::unstable_state::{IsUnstableCausal, IsUnstableCore, IsUnstablePrune, event_history::EventHistory},
 };
@@ -23,6 +25,8 @@ pub struct History {
     pub replicas: u64,
     names: Resolver,
     log: EventHistory<Operation>,
+    /// Not in the original: every event accepted since creation or clear, with its version.
+    accepted: Vec<(EventId, Version)>,
 }
 
 fn by_replica(mut events: Vec<Event>) -> Answer {
@@ -36,6 +40,7 @@ impl History {
             replicas,
             names: resolver(replicas),
             log: EventHistory::default(),
+            accepted: Vec::new(),
         }
     }
 
@@ -57,7 +62,10 @@ impl History {
         let idx = |replica: &u64| ReplicaIdx(*replica as usize);
         let answer = match call {
             Call::Append(event) => {
-                self.log.append(original_event(&self.names, event));
+                let event = original_event(&self.names, event);
+                let accepted = (event.id().clone(), event.version().clone());
+                self.log.append(event);
+                self.accepted.push(accepted);
                 Answer::Done
             }
             Call::Raise(replicas) => {
@@ -78,6 +86,7 @@ impl History {
             Call::IsEmpty => Answer::YesNo(self.log.is_empty()),
             Call::Previous(e, r) => Answer::Event(self.log.previous(&id(e), idx(r)).map(event_of)),
             Call::Next(e, r) => Answer::Event(self.log.next(&id(e), idx(r)).map(event_of)),
+            Call::First(e, r) => self.first(e, *r),
             Call::Newly(e) => by_replica(events_of(self.log.newly_observed_by(&id(e)))),
             Call::Prune(v) => {
                 let frontier = frontier(&self.names, v);
@@ -93,7 +102,10 @@ impl History {
                 let keep: HashMap<Id, u8> = held.into_iter().zip(mask.iter().copied()).collect();
                 self.removing(|log| log.retain(|event| keep[&id_of(event.id())] == 1))
             }
-            Call::Clear => self.removing(|log| log.clear()),
+            Call::Clear => {
+                self.accepted.clear();
+                self.removing(|log| log.clear())
+            }
             Call::New(_) => unreachable!("made by the driver"),
             _ => unreachable!("a graph's word"),
         };
@@ -119,6 +131,27 @@ impl History {
         let trace = &text[text.find(&opening)? + opening.len()..];
         let trace = &trace[..trace.find(": ReplicaTrace {").unwrap_or(trace.len())];
         numbers_after(trace, "VersionEntries([")
+    }
+
+    /// By what was ever accepted: the first event of the replica that has the asked one in its past, and whether it is retained.
+    fn first(&self, e: &Id, r: u64) -> Answer {
+        let asked = event_id(&self.names, e);
+        let observes = |(id, version): &&(EventId, Version)| {
+            let next = e.sequence.checked_add(1) == Some(id.seq() as u64);
+            id.idx().0 as u64 == r
+                && if r == e.replica {
+                    next
+                } else {
+                    asked.is_predecessor_of(version)
+                }
+        };
+        match self.accepted.iter().find(observes) {
+            None => Answer::Event(None),
+            Some((first, _)) => match self.log.get(first) {
+                None => Answer::Word("pruned"),
+                Some(retained) => Answer::Event(Some(event_of(retained))),
+            },
+        }
     }
 
     fn removing(&mut self, change: impl FnOnce(&mut EventHistory<Operation>)) -> Answer {

@@ -88,7 +88,7 @@ fn ranges(lines: &mut Vec<String>) {
             let id = format!("{desk} {sequence} -");
             lines.extend(["get", "version", "newly"].map(|word| format!("h.{word} {id}")));
             for other in [0, 1, 2] {
-                lines.extend(["previous", "next"].map(|word| format!("h.{word} {id} {other}")));
+                lines.extend(["previous", "next", "first"].map(|word| format!("h.{word} {id} {other}")));
             }
         }
     }
@@ -157,6 +157,7 @@ fn joining(lines: &mut Vec<String>) {
         lines.extend(["h.iter", "h.newly 0 3 -", "h.newly 0 4 -"].map(str::to_string));
         lines.extend([0, 2, 4, 15].map(|desk| format!("h.last-version {desk}")));
         lines.extend([0, 2, 4].map(|desk| format!("h.next 0 2 - {desk}")));
+        lines.extend([0, 2, 4].map(|desk| format!("h.first 0 2 - {desk}")));
     }
 }
 

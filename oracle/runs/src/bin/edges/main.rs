@@ -14,7 +14,7 @@ use runs::{
 };
 
 /// A good line of every word but the creations and `room`.
-const BEFORE: [&str; 54] = [
+const BEFORE: [&str; 55] = [
     "c.entry 0 1",
     "c.set 0 1 1",
     "c.join 1 | 1",
@@ -64,6 +64,7 @@ const BEFORE: [&str; 54] = [
     "h.is-empty",
     "h.previous 0 1 - 0",
     "h.next 0 1 - 0",
+    "h.first 0 1 - 0",
     "h.newly 0 1 -",
     "h.prune 1",
     "h.remove 0 1 -",

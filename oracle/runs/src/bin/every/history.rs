@@ -24,7 +24,7 @@ fn neighbours(ids: &[Id], replicas: usize, lines: &mut Vec<String>) {
     for id in ids.iter().map(id_words) {
         lines.push(format!("h.newly {id}"));
         for desk in 0..replicas {
-            lines.extend([format!("h.previous {id} {desk}"), format!("h.next {id} {desk}")]);
+            lines.extend(["previous", "next", "first"].map(|word| format!("h.{word} {id} {desk}")));
         }
     }
 }

@@ -9,7 +9,7 @@
 //!   `greatest`, `is-critical` and `seen` at every vector up to its tops, and a flush at each critical one of these vectors, with the same
 //!   questions after it and an advance to the tops; and an advance at one that is not critical.
 //! - `orders`: each set of notes that is a log, in each order that keeps every desk's own order and brings some note before its past.
-//! - `history`: each set of notes that is a log without siblings: `previous` and `next` of each id and desk, `newly` of each id, and the
+//! - `history`: each set of notes that is a log without siblings: `previous`, `next` and `first` of each id and desk, `newly` of each id, and the
 //!   same again after a prune at every vector up to its tops.
 
 mod graph;

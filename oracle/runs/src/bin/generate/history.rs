@@ -161,7 +161,7 @@ impl HistoryStory {
     }
 
     fn ask(&self, page: &mut Page) {
-        let line = match page.random.below(22) {
+        let line = match page.random.below(24) {
             0 => format!("h.get {}", id_words(&self.id(page))),
             1..=2 => format!("h.version {}", id_words(&self.id(page))),
             3..=4 => {
@@ -173,7 +173,7 @@ impl HistoryStory {
             7 => "h.iter".to_string(),
             8..=10 => self.range(page),
             11 => page.random.pick(&["h.len", "h.is-empty"]).to_string(),
-            12..=17 => {
+            12..=18 => {
                 let id = self.id(page);
                 let replicas = page.probe.history.as_ref().unwrap().replicas;
                 let own = page.random.chance(20);
@@ -182,7 +182,7 @@ impl HistoryStory {
                 } else {
                     replica(&mut page.random, replicas)
                 };
-                let word = page.random.pick(&["previous", "next"]);
+                let word = page.random.pick(&["previous", "next", "first"]);
                 format!("h.{word} {} {r}", id_words(&id))
             }
             _ => format!("h.newly {}", id_words(&self.id(page))),
