@@ -1,11 +1,12 @@
-# python3 tools/inner.py: the definitions of `specs/` on which no contract of a public function rests, and no statement of `promises`, `observation` or `examples`:
-# first those for private contracts, with the functions whose contracts they are, then those for laws alone.
+# python3 tools/inner.py: the definitions of `specs/` on which no contract of a public function rests, no statement of `promises`, `observation` or `examples`, none of
+# docs/ANSWERS.md (they stand in promises/proofs/OneAnswer*.antt) and none that docs/PROMISES.md names with its file: first those for private contracts, with the functions
+# whose contracts they are, then those for laws alone.
 import collections, pathlib, re
 
 CRATES = pathlib.Path("crates")
 STATED = ("promises", "observation", "examples")
 USE = re.compile(r"^(?:ghost )?use (\S+?)\.\{(.*)\};?$", re.M)
-DEFINED = re.compile(r"(?:(?:unfoldable|abbrev|pub|record) )+([^\s:(){}]+)")
+DEFINED = re.compile(r"(?:(?:unfoldable|abbrev|pub|record|data) )+([^\s:(){}]+)")
 CALLED = re.compile(r"^( *)(pub(?:\(super\))? )?fn (\w+)(.*?)^\1\{$", re.M | re.S)
 SPECS = re.compile(r"Rattle·([a-z]+)(?:·specs\.specs|\.specs)\.(.+)$")
 
@@ -69,9 +70,14 @@ for path in CRATES.glob("*/src/**/*.rt"):
                 public.add(key)
             else:
                 private[key].add("%s::%s" % (path.parts[1], name))
-promised = closed(public | {key for key in defined if key[0] in STATED})
+# The invariants that docs/PROMISES.md names; and what the statements that one answer fits are about, of private functions too.
+told = pathlib.Path("docs/PROMISES.md").read_text()
+named = {key for key in defined if re.search(r"`(?:[\w-]+ : )?%s`[^|`]*[, ]%s/(specs|proofs)/" % (re.escape(key[2]), key[0]), told)}
+fits = [path.read_text() for path in CRATES.glob("promises/proofs/OneAnswer*.antt")]
+answers = closed(key for text in fits for key in cited(text, brought(text)))
+promised = closed(public | named | {key for key in defined if key[0] in STATED})
 inner = closed(private) - promised
-for title, keys in ("private contracts", inner), ("laws", set(defined) - promised - inner):
+for title, keys in ("private contracts", inner), ("laws", set(defined) - promised - inner - answers):
     print(title)
     for key in sorted(keys):
         print("    %s/specs/%s.antt: %s  %s" % (key + (" ".join(sorted(private[key])),)))

@@ -1,5 +1,6 @@
 // The listing program: reads lines on standard input to its end, and prints the answer of each. What a line says stands in `listing`,
 // what it does to the log and what is answered in `log`; here the bytes come in and go out. The tables of the log are locals of `main`, and are lent all the way down.
+ghost use Rattle.io.specs.Counts.{Counts};
 use graph::COLUMNS;
 use graph::Pasts;
 use graph::Slots;
@@ -23,10 +24,26 @@ struct Piece {
     ended: bool,
 }
 
-// Writes what is collected.
+// One write; how many bytes it took, 0 where it failed.
+fn write_some(part: &[u8]) -> usize
+    ensures { λ r. ⌜ Counts r (now (part .entry)) ⌝ }
+{
+    let got = libc::write(1, part);
+    io::count(got, part)
+}
+
+// Writes what is collected, straight from its buffer: io's `write_all` has one of its own, 4,096 bytes, for what one write leaves.
 fn flush(out: &[u8], at: usize) {
-    if at <= out.len() {
-        io::write_all(1, &out[0..at]);
+    if out.len() < at {
+        return;
+    }
+    let mut done: usize = 0;
+    while done < at {
+        let n = write_some(&out[done..at]);
+        if n == 0 {
+            return;
+        }
+        done += n;
     }
 }
 
