@@ -9,24 +9,47 @@ use crate::rows::row;
 use crate::rows::seq;
 use crate::rows::version;
 use clocks::vector::Seq;
+use history::Index;
+use history::Notes;
 use history::event_history::EventHistory;
 use history::event_history::Found;
+use numbers::less;
 
 fn built(
     rows: &[usize],
     n: usize,
+    index: &mut Index,
     versions: &mut [Seq; 8192],
-    notes: &mut [u64; 2048],
+    notes: &mut Notes,
     boundaries: &[Seq; 256],
 ) -> EventHistory {
     let a = EventHistory::new(16);
     let mut h = a.history;
     for i in 0..n {
         let note = row(rows, i);
-        let a = h.append(event(note), version(note), versions, notes, boundaries);
-        h = a.history;
+        h = grown(h, note, index, versions, notes, boundaries);
     }
     h
+}
+
+// One note more.
+fn grown(
+    h: EventHistory,
+    note: &[usize],
+    index: &mut Index,
+    versions: &mut [Seq; 8192],
+    notes: &mut Notes,
+    boundaries: &[Seq; 256],
+) -> EventHistory {
+    let a = h.append(
+        event(note),
+        version(note),
+        index,
+        versions,
+        notes,
+        boundaries,
+    );
+    a.history
 }
 
 // One more where something was found.
@@ -39,12 +62,85 @@ fn found(sum: usize, f: Found) -> usize {
 
 #[no_mangle]
 pub extern "C" fn port_history_append(rows: &[usize], n: usize, rounds: usize) -> usize {
+    let mut index = [0u16; 8192];
     let mut versions = [0; 8192];
-    let mut notes = [0u64; 2048];
+    let mut notes = [0u64; 2560];
     let boundaries = [0; 256];
     let mut sum: usize = 0;
     for k in 0..rounds {
-        let h = built(rows, n, &mut versions, &mut notes, &boundaries);
+        let h = built(rows, n, &mut index, &mut versions, &mut notes, &boundaries);
+        sum = std::num::wrapping_add_usize(sum, h.len());
+    }
+    sum
+}
+
+// The note i and the fifteen before it removed, and with them all of their desks.
+fn emptied(
+    h: EventHistory,
+    rows: &[usize],
+    i: usize,
+    index: &Index,
+    versions: &[Seq; 8192],
+    boundaries: &mut [Seq; 256],
+) -> EventHistory {
+    let mut h = h;
+    for k in 0..16usize {
+        let a = h.remove(id(row(rows, less(i, k))), index, versions, boundaries);
+        h = a.history;
+    }
+    h
+}
+
+// Note i more; after each 512 notes all are removed.
+fn turned(
+    h: EventHistory,
+    rows: &[usize],
+    i: usize,
+    index: &mut Index,
+    versions: &mut [Seq; 8192],
+    notes: &mut Notes,
+    boundaries: &mut [Seq; 256],
+) -> EventHistory {
+    let h = grown(h, row(rows, i), index, versions, notes, boundaries);
+    if i % 512 != 511 {
+        return h;
+    }
+    emptied(h, rows, i, index, versions, boundaries)
+}
+
+// All notes, with no more than 512 held: from the second turn on every row is given again.
+fn in_turns(
+    rows: &[usize],
+    n: usize,
+    index: &mut Index,
+    versions: &mut [Seq; 8192],
+    notes: &mut Notes,
+    boundaries: &mut [Seq; 256],
+) -> EventHistory {
+    let a = EventHistory::new(16);
+    let mut h = a.history;
+    for i in 0..n {
+        h = turned(h, rows, i, index, versions, notes, boundaries);
+    }
+    h
+}
+
+#[no_mangle]
+pub extern "C" fn port_history_again(rows: &[usize], n: usize, rounds: usize) -> usize {
+    let mut index = [0u16; 8192];
+    let mut versions = [0; 8192];
+    let mut notes = [0u64; 2560];
+    let mut boundaries = [0; 256];
+    let mut sum: usize = 0;
+    for k in 0..rounds {
+        let h = in_turns(
+            rows,
+            n,
+            &mut index,
+            &mut versions,
+            &mut notes,
+            &mut boundaries,
+        );
         sum = std::num::wrapping_add_usize(sum, h.len());
     }
     sum
@@ -58,13 +154,25 @@ pub extern "C" fn port_history_get(
     m: usize,
     rounds: usize,
 ) -> usize {
+    let mut index = [0u16; 8192];
     let mut versions = [0; 8192];
-    let mut notes = [0u64; 2048];
+    let mut notes = [0u64; 2560];
     let boundaries = [0; 256];
-    let h = built(rows, n, &mut versions, &mut notes, &boundaries);
+    let h = built(rows, n, &mut index, &mut versions, &mut notes, &boundaries);
+    get_rounds(h, queries, m, rounds, &index, &notes)
+}
+
+fn get_rounds(
+    h: EventHistory,
+    queries: &[usize],
+    m: usize,
+    rounds: usize,
+    index: &Index,
+    notes: &Notes,
+) -> usize {
     let mut sum: usize = 0;
     for k in 0..rounds {
-        sum = found(sum, h.get(id(asked(queries, k, m)), &notes));
+        sum = found(sum, h.get(id(asked(queries, k, m)), index, notes));
     }
     sum
 }
@@ -77,15 +185,29 @@ pub extern "C" fn port_history_version(
     m: usize,
     rounds: usize,
 ) -> usize {
+    let mut index = [0u16; 8192];
     let mut versions = [0; 8192];
-    let mut notes = [0u64; 2048];
+    let mut notes = [0u64; 2560];
     let boundaries = [0; 256];
-    let h = built(rows, n, &mut versions, &mut notes, &boundaries);
+    let h = built(rows, n, &mut index, &mut versions, &mut notes, &boundaries);
+    version_rounds(h, queries, m, rounds, &index, &notes, &versions)
+}
+
+fn version_rounds(
+    h: EventHistory,
+    queries: &[usize],
+    m: usize,
+    rounds: usize,
+    index: &Index,
+    notes: &Notes,
+    versions: &[Seq; 8192],
+) -> usize {
     let mut sum: usize = 0;
     for k in 0..rounds {
         sum = std::num::wrapping_add_usize(
             sum,
-            h.version(id(asked(queries, k, m)), &notes, &versions).len(),
+            h.version(id(asked(queries, k, m)), index, notes, versions)
+                .len(),
         );
     }
     sum
@@ -99,11 +221,12 @@ pub extern "C" fn port_history_previous(
     m: usize,
     rounds: usize,
 ) -> usize {
+    let mut index = [0u16; 8192];
     let mut versions = [0; 8192];
-    let mut notes = [0u64; 2048];
+    let mut notes = [0u64; 2560];
     let boundaries = [0; 256];
-    let h = built(rows, n, &mut versions, &mut notes, &boundaries);
-    previous_rounds(h, queries, m, rounds, &notes, &versions)
+    let h = built(rows, n, &mut index, &mut versions, &mut notes, &boundaries);
+    previous_rounds(h, queries, m, rounds, &index, &notes, &versions)
 }
 
 fn previous_rounds(
@@ -111,14 +234,15 @@ fn previous_rounds(
     queries: &[usize],
     m: usize,
     rounds: usize,
-    notes: &[u64; 2048],
+    index: &Index,
+    notes: &Notes,
     versions: &[Seq; 8192],
 ) -> usize {
     let mut sum: usize = 0;
     for k in 0..rounds {
         sum = found(
             sum,
-            h.previous(id(asked(queries, k, m)), desk(k), notes, versions),
+            h.previous(id(asked(queries, k, m)), desk(k), index, notes, versions),
         );
     }
     sum
@@ -132,11 +256,12 @@ pub extern "C" fn port_history_next(
     m: usize,
     rounds: usize,
 ) -> usize {
+    let mut index = [0u16; 8192];
     let mut versions = [0; 8192];
-    let mut notes = [0u64; 2048];
+    let mut notes = [0u64; 2560];
     let boundaries = [0; 256];
-    let h = built(rows, n, &mut versions, &mut notes, &boundaries);
-    next_rounds(h, queries, m, rounds, &versions, &notes)
+    let h = built(rows, n, &mut index, &mut versions, &mut notes, &boundaries);
+    next_rounds(h, queries, m, rounds, &index, &versions, &notes)
 }
 
 fn next_rounds(
@@ -144,14 +269,15 @@ fn next_rounds(
     queries: &[usize],
     m: usize,
     rounds: usize,
+    index: &Index,
     versions: &[Seq; 8192],
-    notes: &[u64; 2048],
+    notes: &Notes,
 ) -> usize {
     let mut sum: usize = 0;
     for k in 0..rounds {
         sum = found(
             sum,
-            h.next(id(asked(queries, k, m)), desk(k), versions, notes),
+            h.next(id(asked(queries, k, m)), desk(k), index, versions, notes),
         );
     }
     sum
@@ -166,13 +292,28 @@ pub extern "C" fn port_history_predecessors(
     rounds: usize,
     out: &mut [usize],
 ) -> usize {
+    let mut index = [0u16; 8192];
     let mut versions = [0; 8192];
-    let mut notes = [0u64; 2048];
+    let mut notes = [0u64; 2560];
     let boundaries = [0; 256];
-    let h = built(rows, n, &mut versions, &mut notes, &boundaries);
+    let h = built(rows, n, &mut index, &mut versions, &mut notes, &boundaries);
+    predecessors_rounds(h, queries, m, rounds, &index, out)
+}
+
+fn predecessors_rounds(
+    h: EventHistory,
+    queries: &[usize],
+    m: usize,
+    rounds: usize,
+    index: &Index,
+    out: &mut [usize],
+) -> usize {
     let mut sum: usize = 0;
     for k in 0..rounds {
-        sum = counted(sum, h.predecessors(version(asked(queries, k, m)), out));
+        sum = counted(
+            sum,
+            h.predecessors(version(asked(queries, k, m)), index, out),
+        );
     }
     sum
 }
@@ -186,13 +327,25 @@ pub extern "C" fn port_history_concurrent(
     rounds: usize,
     out: &mut [usize],
 ) -> usize {
+    let mut index = [0u16; 8192];
     let mut versions = [0; 8192];
-    let mut notes = [0u64; 2048];
+    let mut notes = [0u64; 2560];
     let boundaries = [0; 256];
-    let h = built(rows, n, &mut versions, &mut notes, &boundaries);
+    let h = built(rows, n, &mut index, &mut versions, &mut notes, &boundaries);
+    concurrent_rounds(h, queries, m, rounds, &index, out)
+}
+
+fn concurrent_rounds(
+    h: EventHistory,
+    queries: &[usize],
+    m: usize,
+    rounds: usize,
+    index: &Index,
+    out: &mut [usize],
+) -> usize {
     let mut sum: usize = 0;
     for k in 0..rounds {
-        sum = counted(sum, h.concurrent(version(asked(queries, k, m)), out));
+        sum = counted(sum, h.concurrent(version(asked(queries, k, m)), index, out));
     }
     sum
 }
@@ -204,13 +357,14 @@ pub extern "C" fn port_history_iter(
     rounds: usize,
     out: &mut [usize],
 ) -> usize {
+    let mut index = [0u16; 8192];
     let mut versions = [0; 8192];
-    let mut notes = [0u64; 2048];
+    let mut notes = [0u64; 2560];
     let boundaries = [0; 256];
-    let h = built(rows, n, &mut versions, &mut notes, &boundaries);
+    let h = built(rows, n, &mut index, &mut versions, &mut notes, &boundaries);
     let mut sum: usize = 0;
     for k in 0..rounds {
-        sum = counted(sum, h.iter(out));
+        sum = counted(sum, h.iter(&index, out));
     }
     sum
 }
@@ -224,14 +378,29 @@ pub extern "C" fn port_history_replica_events(
     rounds: usize,
     out: &mut [usize],
 ) -> usize {
+    let mut index = [0u16; 8192];
     let mut versions = [0; 8192];
-    let mut notes = [0u64; 2048];
+    let mut notes = [0u64; 2560];
     let boundaries = [0; 256];
-    let h = built(rows, n, &mut versions, &mut notes, &boundaries);
+    let h = built(rows, n, &mut index, &mut versions, &mut notes, &boundaries);
+    replica_events_rounds(h, queries, m, rounds, &index, out)
+}
+
+fn replica_events_rounds(
+    h: EventHistory,
+    queries: &[usize],
+    m: usize,
+    rounds: usize,
+    index: &Index,
+    out: &mut [usize],
+) -> usize {
     let mut sum: usize = 0;
     for k in 0..rounds {
         let note = asked(queries, k, m);
-        sum = counted(sum, h.replica_events(replica(note), 0, seq(note), out));
+        sum = counted(
+            sum,
+            h.replica_events(replica(note), 0, seq(note), index, out),
+        );
     }
     sum
 }
@@ -245,11 +414,22 @@ pub extern "C" fn port_history_newly(
     rounds: usize,
     out: &mut [usize],
 ) -> usize {
+    let mut index = [0u16; 8192];
     let mut versions = [0; 8192];
-    let mut notes = [0u64; 2048];
+    let mut notes = [0u64; 2560];
     let boundaries = [0; 256];
-    let h = built(rows, n, &mut versions, &mut notes, &boundaries);
-    newly_rounds(h, queries, m, rounds, &notes, &versions, &boundaries, out)
+    let h = built(rows, n, &mut index, &mut versions, &mut notes, &boundaries);
+    newly_rounds(
+        h,
+        queries,
+        m,
+        rounds,
+        &index,
+        &notes,
+        &versions,
+        &boundaries,
+        out,
+    )
 }
 
 fn newly_rounds<'a>(
@@ -257,7 +437,8 @@ fn newly_rounds<'a>(
     queries: &[usize],
     m: usize,
     rounds: usize,
-    notes: &[u64; 2048],
+    index: &Index,
+    notes: &Notes,
     versions: &'a [Seq; 8192],
     boundaries: &'a [Seq; 256],
     out: &mut [usize],
@@ -266,7 +447,14 @@ fn newly_rounds<'a>(
     for k in 0..rounds {
         sum = counted(
             sum,
-            h.newly_observed_by(id(asked(queries, k, m)), notes, versions, boundaries, out),
+            h.newly_observed_by(
+                id(asked(queries, k, m)),
+                index,
+                notes,
+                versions,
+                boundaries,
+                out,
+            ),
         );
     }
     sum

@@ -11,7 +11,9 @@ use borrow.Author.Tests.{eqb-true}
 use Rattle.laws.specs.Counting.{pick}
 use Rattle.laws.proofs.Orders.{le-or-lt, true-or-false}
 use Rattle.clocks.specs.Vectors.{entry}
-use Rattle.history.specs.Traces.{lastOf, HistoryOk, newHistory, widenedHistory}
+use Rattle.history.specs.Whole.{EventHistory, whole}
+use Rattle.history.specs.Traces.{lastOf, newHistory, widenedWhole}
+use Rattle.history.specs.Rooms.{HistoryOk}
 use Rattle.history.specs.Appends.{appendRefusal, appended, Appends}
 use Rattle.history.specs.Prunes.{Prunes, PrunesOr}
 use Rattle.history.proofs.Appends.{Accepted, accepted-tells}
@@ -20,8 +22,6 @@ use Rattle.history.proofs.Raises.{widen-history-cases}
 use Rattle.observation.specs.Reached.{Versions, none, withVersion, Reached, created, append, remove, prune, retain, raise, clear}
 use Rattle.clocks.specs.declared.event.Event.{Event}
 use Rattle.clocks.specs.declared.id.EventId.{EventId}
-use Rattle.history.specs.declared.event_history.EventHistory.{EventHistory}
-use Rattle.history.specs.declared.event_history.HistoryAnswer.{HistoryAnswer}
 use Rattle.history.specs.declared.event_history.Removed.{Removed}
 use Rattle.history.specs.declared.event_history.PruneAnswer.{PruneAnswer}
 use Rattle.observation.proofs.CarriedAppends.{with-replica, with-sequence}
@@ -46,9 +46,9 @@ append-within h versions boundaries W id v ok a w = record {
 }
 
 appends-within : (h : EventHistory) (versions notes boundaries : List ℕ) (W : Versions) → HistoryOk h → Within h W
-    → (event : Event) (v versions′ notes′ : List ℕ) (a : HistoryAnswer) → Appends h event v versions notes boundaries versions′ notes′ a
-    → Within (a .history) (pick (eqb (a .refusal) 0) (withVersion W (event .id) v) W)
-appends-within h versions notes boundaries W ok w event v versions′ notes′ a p = ⊎-elim
+    → (event : Event) (v versions′ notes′ : List ℕ) (number : ℕ) (h′ : EventHistory) → Appends h event v versions notes boundaries versions′ notes′ number h′
+    → Within h′ (pick (eqb number 0) (withVersion W (event .id) v) W)
+appends-within h versions notes boundaries W ok w event v versions′ notes′ number h′ p = ⊎-elim
     (λ (t : eqb (appendRefusal h versions boundaries (event .id) v) 0 ≡ true).
     rw (p .number, p .trace, t)
     (append-within h versions boundaries W (event .id) v ok (accepted-tells h versions boundaries (event .id) v (eqb-true (appendRefusal h versions boundaries (event .id) v) 0 t)) w))
@@ -57,25 +57,25 @@ appends-within h versions notes boundaries W ok w event v versions′ notes′ a
 
 -- a removal changes no last sequence
 prunes-within : (h : EventHistory) (versions boundaries : List ℕ) (W : Versions) → Within h W
-    → (to boundaries′ : List ℕ) (a : Removed) → Prunes h to versions boundaries boundaries′ a → Within (a .history) W
+    → (to boundaries′ : List ℕ) (a : Removed) → Prunes h to versions boundaries boundaries′ a → Within (whole (a .history) (h .index)) W
 prunes-within h versions boundaries W w to boundaries′ a p = rw (p .trace) (record { low = w .low; high = w .high })
 
 prunes-or-within : (h : EventHistory) (versions boundaries : List ℕ) (W : Versions) → Within h W
-    → (number : ℕ) (to boundaries′ : List ℕ) (a : PruneAnswer) → PrunesOr number h to versions boundaries boundaries′ a → Within (a .history) W
+    → (number : ℕ) (to boundaries′ : List ℕ) (a : PruneAnswer) → PrunesOr number h to versions boundaries boundaries′ a → Within (whole (a .history) (h .index)) W
 prunes-or-within h versions boundaries W w number to boundaries′ a p = ⊎-elim
     (λ (t : eqb number 0 ≡ true). rw (p .trace, t) (record { low = w .low; high = w .high }))
     (λ (f : eqb number 0 ≡ false). rw (p .trace, f) w)
     (true-or-false (eqb number 0))
 
-raised-within : (h : EventHistory) (r : ℕ) (W : Versions) → Within h W → Within (widenedHistory h r .history) W
+raised-within : (h : EventHistory) (r : ℕ) (W : Versions) → Within h W → Within (widenedWhole h r) W
 raised-within h r W w = widen-history-cases (λ (g : EventHistory). Within g W) h r w (λ l m p. record { low = w .low; high = w .high })
 
 nothing : (h : EventHistory) → Within h none
 nothing h = record { low = λ r. refl; high = λ r s l. refl }
 
 reached-within : {h : EventHistory} {versions notes boundaries : List ℕ} {W : Versions} {accepted gone : ℕ} → Reached h versions notes boundaries W accepted gone → Within h W
-reached-within (created r versions notes boundaries e a b d) = nothing (newHistory r .history)
-reached-within (append w event v versions′ notes′ a p) = appends-within _ _ _ _ _ (reached-kept w .ok) (reached-within w) event v versions′ notes′ a p
+reached-within (created r index versions notes boundaries e i a b d) = nothing (whole (newHistory r .history) index)
+reached-within (append w event v versions′ notes′ number h′ p) = appends-within _ _ _ _ _ (reached-kept w .ok) (reached-within w) event v versions′ notes′ number h′ p
 reached-within (remove w id boundaries′ a p) = prunes-within _ _ _ _ (reached-within w) _ boundaries′ a p
 reached-within (prune w frontier boundaries′ a p) = prunes-or-within _ _ _ _ (reached-within w) _ frontier boundaries′ a p
 reached-within (retain w mask boundaries′ a p) = prunes-or-within _ _ _ _ (reached-within w) _ _ boundaries′ a p

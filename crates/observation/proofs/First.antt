@@ -13,6 +13,7 @@ use borrow.Author.Tests.{leb-true, le-leb, lt-ltb, le-ltb}
 use Rattle.laws.proofs.Orders.{le-or-lt, true-or-false}
 use Rattle.clocks.specs.Vectors.{desks, entry, covers}
 use Rattle.clocks.proofs.Vectors.{covers-intro, covers-elim}
+use Rattle.history.specs.Whole.{EventHistory}
 use Rattle.history.specs.Tables.{noteAt}
 use Rattle.history.specs.Traces.{replicas, prunedOf, lastOf, retainedOf, held, eventOf, versionRow, boundaryRow}
 use Rattle.history.specs.Lists.{isAbsent}
@@ -25,7 +26,6 @@ use Rattle.observation.specs.Reached.{Versions, Reached}
 use Rattle.observation.specs.Observation.{NewlyObserves}
 use Rattle.observation.specs.First.{Observes, IsFirst, TellsFirst}
 use Rattle.clocks.specs.declared.id.EventId.{EventId}
-use Rattle.history.specs.declared.event_history.EventHistory.{EventHistory}
 use Rattle.history.specs.declared.event_history.Found.the-variants.{Op}
 use Rattle.history.specs.declared.event_history.FirstObserver.{FirstObserver}
 use Rattle.history.specs.declared.event_history.FirstObserver.the-variants.{NoneYet, Pruned}
@@ -36,7 +36,7 @@ use Rattle.observation.proofs.Next.{First, one, no-one, first-of, next-
 use Rattle.observation.proofs.Accepted.{accepted-range, accepted-some}
 use Rattle.observation.proofs.FirstAnswers.{Which, kept, gone, unseen, tells, observes-past, past-observes}
 
-event-held : (h : EventHistory) (notes : List ℕ) (r s : ℕ) → held h r s ≡ true → eventOf h notes r s ≡ Op (noteAt notes r s)
+event-held : (h : EventHistory) (notes : List ℕ) (r s : ℕ) → held h r s ≡ true → eventOf h notes r s ≡ Op (noteAt h notes r s)
 unfolding eventOf
 event-held h notes r s e = rw e
 

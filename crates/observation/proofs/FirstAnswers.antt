@@ -5,6 +5,7 @@ use mathlib.Core.Path.{_≡_, sym, ap, _∙_}
 use Prim.Native.Nat.{ℕ, _-_, _≤_}
 use native.Mathlib.Nat.{le-antisymm}
 use native.Mathlib.Omega.{arith}
+use Rattle.history.specs.Whole.{EventHistory}
 use Rattle.history.specs.Tables.{noteAt}
 use Rattle.history.specs.Traces.{prunedOf, held}
 use Rattle.history.proofs.Traces.{held-tells}
@@ -12,7 +13,6 @@ use Rattle.observation.specs.Reached.{Versions}
 use Rattle.observation.specs.Observation.{InPast}
 use Rattle.observation.specs.First.{Observes, IsFirst, TellsFirst}
 use Rattle.clocks.specs.declared.tagged_op.TaggedOp.{TaggedOp}
-use Rattle.history.specs.declared.event_history.EventHistory.{EventHistory}
 use Rattle.history.specs.declared.event_history.FirstObserver.{FirstObserver}
 use Rattle.history.specs.declared.event_history.FirstObserver.the-variants.{Event, NoneYet, Pruned}
 use Rattle.observation.proofs.Next.{one}
@@ -46,7 +46,7 @@ event-same a b e = cc
 -- ---- one of three
 
 pub data Which (h : EventHistory) (notes : List ℕ) (W : Versions) (r s q : ℕ) (f : FirstObserver) : Type 0 where
-  kept : (t : ℕ) → IsFirst W r s q t → held h q t ≡ true → f ≡ Event (noteAt notes q t) → Which h notes W r s q f
+  kept : (t : ℕ) → IsFirst W r s q t → held h q t ≡ true → f ≡ Event (noteAt h notes q t) → Which h notes W r s q f
   gone : (t : ℕ) → IsFirst W r s q t → t ≤ prunedOf h q → f ≡ Pruned → Which h notes W r s q f
   unseen : ((t : ℕ) → Observes W q t r s → ⊥) → f ≡ NoneYet → Which h notes W r s q f
 
@@ -54,14 +54,14 @@ pub data Which (h : EventHistory) (notes : List ℕ) (W : Versions) (r s q : ℕ
 pub tells : (h : EventHistory) (notes : List ℕ) (W : Versions) (r s q : ℕ) (f : FirstObserver) → Which h notes W r s q f → TellsFirst h notes W r s q f
 tells h notes W r s q f (kept t i k e) = record {
   event = λ op. (
-    (λ x. (t, i, k, event-same (noteAt notes q t) op (sym e ∙ x))),
-    (λ x. e ∙ ap Event (ap (noteAt notes q) (first-once W r s q t (x .0) i (x .1)) ∙ sym (x .3))),
+    (λ x. (t, i, k, event-same (noteAt h notes q t) op (sym e ∙ x))),
+    (λ x. e ∙ ap Event (ap (noteAt h notes q) (first-once W r s q t (x .0) i (x .1)) ∙ sym (x .3))),
   );
   pruned = (
-    (λ x. event-pruned (noteAt notes q t) (sym e ∙ x)),
+    (λ x. event-pruned (noteAt h notes q t) (sym e ∙ x)),
     (λ x. absurd (omega (arith, held-tells h q t k .1, first-once W r s q t (x .0) i (x .1), x .2))),
   );
-  none = ((λ x. event-none (noteAt notes q t) (sym e ∙ x)), (λ x. absurd (x t (i .past))));
+  none = ((λ x. event-none (noteAt h notes q t) (sym e ∙ x)), (λ x. absurd (x t (i .past))));
 }
 tells h notes W r s q f (gone t i k e) = record {
   event = λ op. (

@@ -18,10 +18,10 @@ use Rattle.history.proofs.Tables.{padded-entry}
 use Rattle.history.proofs.Traces.{held-tells, held-is, held-in, holds-held, holds-in}
 use Rattle.history.proofs.Lists.{newly-held}
 use Rattle.history.proofs.Members.{spans-member, spans-cases}
+use Rattle.history.specs.Whole.{EventHistory}
 use Rattle.observation.specs.Reached.{Versions, Reached}
 use Rattle.observation.specs.Observation.{NewlyObserves, NewRow}
 use Rattle.clocks.specs.declared.id.EventId.{EventId}
-use Rattle.history.specs.declared.event_history.EventHistory.{EventHistory}
 use Rattle.observation.proofs.Carried.{looked-up, not-held}
 use Rattle.observation.proofs.Kept.{reached-kept}
 use Rattle.observation.proofs.Held.{row-entry, own-entry, versions-rise}
@@ -161,7 +161,7 @@ module _ {h : EventHistory} {versions notes boundaries : List ℕ} {W : Versions
 
   newly-tells : (x : ℕ) → List·Memᴰ x (newlyRows h notes versions boundaries id) → NewRow h W r s x
   newly-tells x m =
-      let t = spans-cases from to (replicas h) x (rw (newly-held h notes versions boundaries id e) at m) in
+      let t = spans-cases (h .index) from to (replicas h) x (rw (newly-held h notes versions boundaries id e) at m) in
       let q = t .replica in
       let u = t .sequence in
       let a = le-max-left (prunedOf h q) (seen q) in
@@ -184,7 +184,7 @@ module _ {h : EventHistory} {versions notes boundaries : List ℕ} {W : Versions
       let t = held-tells h q u (n .kept) in
       let b = between q u (n .newly) in
       rw (newly-held h notes versions boundaries id e)
-      (Memᴰ·cast (n .row) (spans-member from to (replicas h) q u (t .0) (max-lt (prunedOf h q) (seen q) u (t .1) (b .0)) (le-min (t .2) (b .1))))
+      (Memᴰ·cast (n .row) (spans-member (h .index) from to (replicas h) q u (t .0) (max-lt (prunedOf h q) (seen q) u (t .1) (b .0)) (le-min (t .2) (b .1))))
 
   pub newly-exact : (x : ℕ) → List·Memᴰ x (newlyRows h notes versions boundaries id) ↔ NewRow h W (id .idx .0) (id .seq) x
   newly-exact x = (newly-tells x, newly-lists x)

@@ -16,10 +16,10 @@ use Rattle.clocks.proofs.Vectors.{covers-intro, covers-elim, covers-zero}
 use Rattle.history.specs.Traces.{prunedOf, lastOf, retainedOf, held, eventOf, holds, versionRow}
 use Rattle.history.specs.Neighbours.{firstCovering, nextOf}
 use Rattle.history.proofs.Traces.{held-tells, held-is, holds-held, holds-in, event-past}
+use Rattle.history.specs.Whole.{EventHistory}
 use Rattle.observation.specs.Reached.{Versions, Reached}
 use Rattle.observation.specs.Observation.{InPast, IsNext, TellsNext}
 use Rattle.clocks.specs.declared.id.EventId.{EventId}
-use Rattle.history.specs.declared.event_history.EventHistory.{EventHistory}
 use Rattle.history.specs.declared.event_history.Found.the-variants.{Nothing}
 use Rattle.observation.proofs.Carried.{known, not-held}
 use Rattle.observation.proofs.Kept.{reached-kept}

@@ -13,10 +13,10 @@ use Rattle.clocks.specs.Vectors.{entry}
 use Rattle.history.specs.Traces.{lastOf, eventOf, holds, versionRow}
 use Rattle.history.specs.Neighbours.{previousOf}
 use Rattle.history.proofs.Traces.{holds-held, holds-in, held-tells}
+use Rattle.history.specs.Whole.{EventHistory}
 use Rattle.observation.specs.Reached.{Versions, Reached}
 use Rattle.observation.specs.Observation.{IsPrevious}
 use Rattle.clocks.specs.declared.id.EventId.{EventId}
-use Rattle.history.specs.declared.event_history.EventHistory.{EventHistory}
 use Rattle.history.specs.declared.event_history.Found.the-variants.{Nothing}
 use Rattle.observation.proofs.Held.{row-entry, own-entry}
 

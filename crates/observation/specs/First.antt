@@ -6,11 +6,11 @@ use mathlib.Core.Logic.{_↔_}
 use mathlib.Core.Path.{_≡_}
 use Prim.Native.Nat.{ℕ, _≤_}
 use Rattle.clocks.specs.Vectors.{entry}
+use Rattle.history.specs.Whole.{EventHistory}
 use Rattle.history.specs.Tables.{noteAt}
 use Rattle.history.specs.Traces.{prunedOf, held}
 use Rattle.observation.specs.Reached.{Versions}
 use Rattle.clocks.specs.declared.tagged_op.TaggedOp.{TaggedOp}
-use Rattle.history.specs.declared.event_history.EventHistory.{EventHistory}
 use Rattle.history.specs.declared.event_history.FirstObserver.{FirstObserver}
 use Rattle.history.specs.declared.event_history.FirstObserver.the-variants.{Event, NoneYet, Pruned}
 
@@ -28,6 +28,6 @@ pub record IsFirst (W : Versions) (r s q t : ℕ) : Type 0 where
 
 -- an event exactly when the first one is retained, and it is that one; pruned exactly when the first one is pruned; none yet exactly when there is none
 pub record TellsFirst (h : EventHistory) (notes : List ℕ) (W : Versions) (r s q : ℕ) (f : FirstObserver) : Type 0 where
-  pub event : (op : TaggedOp) → (f ≡ Event op) ↔ ((t : ℕ) × IsFirst W r s q t × (held h q t ≡ true) × (op ≡ noteAt notes q t))
+  pub event : (op : TaggedOp) → (f ≡ Event op) ↔ ((t : ℕ) × IsFirst W r s q t × (held h q t ≡ true) × (op ≡ noteAt h notes q t))
   pub pruned : (f ≡ Pruned) ↔ ((t : ℕ) × IsFirst W r s q t × (t ≤ prunedOf h q))
   pub none : (f ≡ NoneYet) ↔ ((t : ℕ) → Observes W q t r s → ⊥)

@@ -9,7 +9,7 @@ use Rattle.clocks.specs.Vectors.{entry}
 use Rattle.history.specs.Tables.{rowOf}
 use Rattle.history.specs.Traces.{held, eventOf}
 use Rattle.observation.specs.Reached.{Versions}
-use Rattle.history.specs.declared.event_history.EventHistory.{EventHistory}
+use Rattle.history.specs.Whole.{EventHistory}
 use Rattle.history.specs.declared.event_history.Found.{Found}
 use Rattle.history.specs.declared.event_history.Found.the-variants.{Nothing}
 
@@ -52,4 +52,4 @@ pub record NewRow (h : EventHistory) (W : Versions) (r s x : ℕ) : Type 0 where
   pub sequence : ℕ
   pub kept : held h replica sequence ≡ true
   pub newly : NewlyObserves W r s replica sequence
-  pub row : x ≡ rowOf replica sequence
+  pub row : x ≡ rowOf h replica sequence

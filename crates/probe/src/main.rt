@@ -6,6 +6,8 @@ use clocks::vector::Seq;
 use graph::COLUMNS;
 use graph::Pasts;
 use graph::Slots;
+use history::Index;
+use history::Notes;
 use probe_text::parts::bytes;
 use state::State;
 use state::answer;
@@ -137,8 +139,9 @@ fn run(
     input: &mut Piece,
     line: &mut Line,
     out: &mut Piece,
+    index: &mut Index,
     versions: &mut [Seq; 8192],
-    notes: &mut [u64; 2048],
+    notes: &mut Notes,
     boundaries: &mut [Seq; 256],
     slots: &mut Slots,
     pasts: &mut Pasts,
@@ -157,6 +160,7 @@ fn run(
                 st,
                 text_of(r.held, line),
                 out,
+                index,
                 versions,
                 notes,
                 boundaries,
@@ -172,8 +176,9 @@ fn main() {
     let mut input = io::large_buffer();
     let mut line = io::buffer();
     let mut out = io::large_buffer();
+    let mut index = [0u16; 8192];
     let mut versions = [0; 8192];
-    let mut notes = [0u64; 2048];
+    let mut notes = [0u64; 2560];
     let mut boundaries = [0; 256];
     let mut slots = [[0; 256]; COLUMNS];
     let mut pasts = [0u64; 1024];
@@ -181,6 +186,7 @@ fn main() {
         &mut input,
         &mut line,
         &mut out,
+        &mut index,
         &mut versions,
         &mut notes,
         &mut boundaries,

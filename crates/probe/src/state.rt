@@ -4,6 +4,8 @@ use clocks::refusal::BAD_LINE;
 use clocks::vector::Seq;
 use graph::Pasts;
 use graph::Slots;
+use history::Index;
+use history::Notes;
 use numbers::entry;
 use probe_clocks::Clocked;
 use probe_graph::Log;
@@ -100,8 +102,9 @@ pub fn answer(
     st: State,
     line: &[u8],
     out: &mut [u8; 65_536],
+    index: &mut Index,
     versions: &mut [Seq; 8192],
-    notes: &mut [u64; 2048],
+    notes: &mut Notes,
     boundaries: &mut [Seq; 256],
     slots: &mut Slots,
     pasts: &mut Pasts,
@@ -117,6 +120,7 @@ pub fn answer(
         kinds,
         values,
         out,
+        index,
         versions,
         notes,
         boundaries,
@@ -166,8 +170,9 @@ fn history_word(
     kinds: &[u8],
     values: &[usize],
     out: &mut [u8; 65_536],
+    index: &mut Index,
     versions: &mut [Seq; 8192],
-    notes: &mut [u64; 2048],
+    notes: &mut Notes,
     boundaries: &mut [Seq; 256],
 ) -> State {
     st.traced(probe_history::answer(
@@ -178,6 +183,7 @@ fn history_word(
         values,
         out,
         st.at,
+        index,
         versions,
         notes,
         boundaries,
@@ -190,8 +196,9 @@ fn by_word(
     kinds: &[u8],
     values: &[usize],
     out: &mut [u8; 65_536],
+    index: &mut Index,
     versions: &mut [Seq; 8192],
-    notes: &mut [u64; 2048],
+    notes: &mut Notes,
     boundaries: &mut [Seq; 256],
     slots: &mut Slots,
     pasts: &mut Pasts,
@@ -199,7 +206,17 @@ fn by_word(
     match byte_at(line, 0) {
         b'c' => clock_word(st, line, kinds, values, out),
         b'g' => graph_word(st, line, kinds, values, out, slots, pasts),
-        b'h' => history_word(st, line, kinds, values, out, versions, notes, boundaries),
+        b'h' => history_word(
+            st,
+            line,
+            kinds,
+            values,
+            out,
+            index,
+            versions,
+            notes,
+            boundaries,
+        ),
         _ => room(st, line, kinds, values, out),
     }
 }

@@ -2,6 +2,8 @@
 use clocks::refusal::BAD_LINE;
 use clocks::replica::ReplicaIdx;
 use clocks::vector::Seq;
+use history::Index;
+use history::Notes;
 use history::event_history::EventHistory;
 use history::event_history::FirstObserver;
 use history::event_history::Found;
@@ -37,19 +39,20 @@ pub fn asked(
     line: &[u8],
     kinds: &[u8],
     values: &[usize],
+    index: &Index,
     versions: &[Seq; 8192],
-    notes: &[u64; 2048],
+    notes: &Notes,
     boundaries: &[Seq; 256],
 ) -> Answer {
     let id = id(kinds, values);
     let r = ReplicaIdx(entry(values, 3));
     match word(line, kinds, values) {
-        GET => found(h.get(id, notes)),
-        PREVIOUS => found(h.previous(id, r, notes, versions)),
-        NEXT => found(h.next(id, r, versions, notes)),
+        GET => found(h.get(id, index, notes)),
+        PREVIOUS => found(h.previous(id, r, index, notes, versions)),
+        NEXT => found(h.next(id, r, index, versions, notes)),
         LEN => Answer::Number(h.len()),
         IS_EMPTY => yes_no(h.is_empty()),
-        FIRST => first(h.first_observer(id, r, versions, notes, boundaries)),
+        FIRST => first(h.first_observer(id, r, index, versions, notes, boundaries)),
         _ => Answer::Bare(BAD_LINE),
     }
 }

@@ -3,6 +3,8 @@ use crate::Traces;
 use clocks::refusal::ACCEPTED;
 use clocks::refusal::BAD_LINE;
 use clocks::vector::Seq;
+use history::Index;
+use history::Notes;
 use history::event_history::EventHistory;
 use history::event_history::HistoryAnswer;
 use history::event_history::PruneAnswer;
@@ -50,8 +52,9 @@ pub fn called(
     t: Traces,
     kinds: &[u8],
     values: &[usize],
+    index: &mut Index,
     versions: &mut [Seq; 8192],
-    notes: &mut [u64; 2048],
+    notes: &mut Notes,
     boundaries: &mut [Seq; 256],
 ) -> Change {
     if word == NEW {
@@ -64,9 +67,9 @@ pub fn called(
     if word == APPEND {
         let event = event(kinds, values);
         let v = vector(kinds, values, 6);
-        return appended(h, h.append(event, v, versions, notes, boundaries));
+        return appended(h, h.append(event, v, index, versions, notes, boundaries));
     }
-    taken(word, h, kinds, values, versions, boundaries)
+    taken(word, h, kinds, values, index, versions, boundaries)
 }
 
 // The words that take events away, or let more desks in.
@@ -75,13 +78,14 @@ fn taken(
     h: EventHistory,
     kinds: &[u8],
     values: &[usize],
+    index: &Index,
     versions: &[Seq; 8192],
     boundaries: &mut [Seq; 256],
 ) -> Change {
     match word {
-        PRUNE => pruned(h, h.prune_predecessors(values, versions, boundaries)),
-        REMOVE => removed(h.remove(id(kinds, values), versions, boundaries)),
-        RETAIN => retained(h, values, versions, boundaries),
+        PRUNE => pruned(h, h.prune_predecessors(values, index, versions, boundaries)),
+        REMOVE => removed(h.remove(id(kinds, values), index, versions, boundaries)),
+        RETAIN => retained(h, values, index, versions, boundaries),
         RAISE => appended(h, h.raise(entry(values, 0))),
         _ => removed(h.clear()),
     }
@@ -91,13 +95,14 @@ fn taken(
 fn retained(
     h: EventHistory,
     values: &[usize],
+    index: &Index,
     versions: &[Seq; 8192],
     boundaries: &mut [Seq; 256],
 ) -> Change {
     let keep = mask(values);
     pruned(
         h,
-        h.retain(bytes(&keep, 0, values.len()), versions, boundaries),
+        h.retain(bytes(&keep, 0, values.len()), index, versions, boundaries),
     )
 }
 

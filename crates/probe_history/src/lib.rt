@@ -6,9 +6,12 @@ mod rows;
 
 use clocks::refusal::BAD_LINE;
 use clocks::vector::Seq;
+use history::Index;
+use history::Notes;
 use history::event_history::EventHistory;
 use probe_text::answers;
 use probe_text::lent::digest;
+use probe_text::lent::rows_digest;
 use probe_text::lent::words_digest;
 use probe_text::words::NO_ROW;
 
@@ -35,8 +38,16 @@ pub fn no_traces() -> Traces {
 }
 
 // A number that tells two contents of the tables apart.
-fn tables_digest(versions: &[Seq; 8192], notes: &[u64; 2048], boundaries: &[Seq; 256]) -> u64 {
-    digest(versions) ^ (words_digest(notes) << 1) ^ (digest(boundaries) << 2)
+fn tables_digest(
+    index: &Index,
+    versions: &[Seq; 8192],
+    notes: &Notes,
+    boundaries: &[Seq; 256],
+) -> u64 {
+    digest(versions)
+        ^ (words_digest(notes) << 1)
+        ^ (digest(boundaries) << 2)
+        ^ (rows_digest(index) << 3)
 }
 
 pub fn answer(
@@ -47,8 +58,9 @@ pub fn answer(
     values: &[usize],
     out: &mut [u8],
     at: usize,
+    index: &mut Index,
     versions: &mut [Seq; 8192],
-    notes: &mut [u64; 2048],
+    notes: &mut Notes,
     boundaries: &mut [Seq; 256],
 ) -> Traced {
     let word = changes::word(line, kinds, values);
@@ -62,6 +74,7 @@ pub fn answer(
                 values,
                 out,
                 at,
+                index,
                 versions,
                 notes,
                 boundaries,
@@ -69,7 +82,18 @@ pub fn answer(
             traces: t,
         };
     }
-    changed(word, t, kinds, values, out, at, versions, notes, boundaries)
+    changed(
+        word,
+        t,
+        kinds,
+        values,
+        out,
+        at,
+        index,
+        versions,
+        notes,
+        boundaries,
+    )
 }
 
 // The words that hand back a history. Where one refused, the tables are to be as they were.
@@ -80,13 +104,14 @@ fn changed(
     values: &[usize],
     out: &mut [u8],
     at: usize,
+    index: &mut Index,
     versions: &mut [Seq; 8192],
-    notes: &mut [u64; 2048],
+    notes: &mut Notes,
     boundaries: &mut [Seq; 256],
 ) -> Traced {
-    let before = tables_digest(versions, notes, boundaries);
-    let c = changes::called(word, t, kinds, values, versions, notes, boundaries);
-    let after = tables_digest(versions, notes, boundaries);
+    let before = tables_digest(index, versions, notes, boundaries);
+    let c = changes::called(word, t, kinds, values, index, versions, notes, boundaries);
+    let after = tables_digest(index, versions, notes, boundaries);
     let answer = c.answer;
     let traces = c.traces;
     Traced {
@@ -116,8 +141,9 @@ fn asked<'a>(
     values: &[usize],
     out: &mut [u8],
     at: usize,
+    index: &Index,
     versions: &'a [Seq; 8192],
-    notes: &[u64; 2048],
+    notes: &Notes,
     boundaries: &'a [Seq; 256],
 ) -> usize {
     let h = t.history;
@@ -134,6 +160,7 @@ fn asked<'a>(
             values,
             out,
             at,
+            index,
             versions,
             notes,
             boundaries,
@@ -141,9 +168,9 @@ fn asked<'a>(
     }
     let word = rows::word(line, kinds, values);
     if word != NO_ROW {
-        let row = rows::called(word, h, kinds, values, versions, notes, boundaries);
+        let row = rows::called(word, h, kinds, values, index, versions, notes, boundaries);
         return answers::vector(out, at, row, row.len());
     }
-    let answer = asks::asked(h, line, kinds, values, versions, notes, boundaries);
+    let answer = asks::asked(h, line, kinds, values, index, versions, notes, boundaries);
     answers::told(out, at, answer, false)
 }

@@ -3,6 +3,8 @@ use clocks::refusal::BAD_LINE;
 use clocks::refusal::Listed;
 use clocks::replica::ReplicaIdx;
 use clocks::vector::Seq;
+use history::Index;
+use history::Notes;
 use history::event_history::EventHistory;
 use history::event_history::Found;
 use numbers::entry;
@@ -39,23 +41,24 @@ fn called<'a>(
     kinds: &[u8],
     values: &[usize],
     list: &mut [usize],
+    index: &Index,
     versions: &'a [Seq; 8192],
-    notes: &[u64; 2048],
+    notes: &Notes,
     boundaries: &'a [Seq; 256],
 ) -> Listed {
     match word {
-        PREDECESSORS => h.predecessors(values, list),
-        CONCURRENT => h.concurrent(values, list),
-        ITER => h.iter(list),
-        NEWLY => h.newly_observed_by(id(kinds, values), notes, versions, boundaries, list),
-        _ => replica_events(h, values, list),
+        PREDECESSORS => h.predecessors(values, index, list),
+        CONCURRENT => h.concurrent(values, index, list),
+        ITER => h.iter(index, list),
+        NEWLY => h.newly_observed_by(id(kinds, values), index, notes, versions, boundaries, list),
+        _ => replica_events(h, values, index, list),
     }
 }
 
 // `h.replica-events O A B`
-fn replica_events(h: EventHistory, values: &[usize], list: &mut [usize]) -> Listed {
+fn replica_events(h: EventHistory, values: &[usize], index: &Index, list: &mut [usize]) -> Listed {
     let origin = ReplicaIdx(entry(values, 0));
-    h.replica_events(origin, entry(values, 1), entry(values, 2), list)
+    h.replica_events(origin, entry(values, 1), entry(values, 2), index, list)
 }
 
 // The call with a buffer of `room` entries, and what it answered.
@@ -67,8 +70,9 @@ pub fn listed<'a>(
     values: &[usize],
     out: &mut [u8],
     at: usize,
+    index: &Index,
     versions: &'a [Seq; 8192],
-    notes: &[u64; 2048],
+    notes: &Notes,
     boundaries: &'a [Seq; 256],
 ) -> usize {
     let mut list = [PATTERN; MOST_ROOM];
@@ -84,6 +88,7 @@ pub fn listed<'a>(
         list,
         out,
         at,
+        index,
         versions,
         notes,
         boundaries,
@@ -98,12 +103,23 @@ fn lent<'a>(
     list: &mut [usize],
     out: &mut [u8],
     at: usize,
+    index: &Index,
     versions: &'a [Seq; 8192],
-    notes: &[u64; 2048],
+    notes: &Notes,
     boundaries: &'a [Seq; 256],
 ) -> usize {
-    let answer = called(word, h, kinds, values, list, versions, notes, boundaries);
-    told(h, answer, list, out, at, notes)
+    let answer = called(
+        word,
+        h,
+        kinds,
+        values,
+        list,
+        index,
+        versions,
+        notes,
+        boundaries,
+    );
+    told(h, answer, list, out, at, index, notes)
 }
 
 fn told(
@@ -112,11 +128,12 @@ fn told(
     list: &[usize],
     out: &mut [u8],
     at: usize,
-    notes: &[u64; 2048],
+    index: &Index,
+    notes: &Notes,
 ) -> usize {
     let n = count(listed);
     let at = answers::bare(out, at, refusal(listed));
-    let at = entries(h, list, n, out, at, notes);
+    let at = entries(h, list, n, out, at, index, notes);
     answers::ended(out, at, !is_kept(list, n))
 }
 
@@ -127,11 +144,12 @@ fn entries(
     n: usize,
     out: &mut [u8],
     at: usize,
-    notes: &[u64; 2048],
+    index: &Index,
+    notes: &Notes,
 ) -> usize {
     let mut at = at;
     for i in 0..n {
-        at = held(h.event_at(entry(list, i), notes), out, at);
+        at = held(h.event_at(entry(list, i), index, notes), out, at);
     }
     at
 }

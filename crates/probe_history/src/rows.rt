@@ -1,6 +1,8 @@
 // The history words that answer a vector, a row of the tables.
 use clocks::replica::ReplicaIdx;
 use clocks::vector::Seq;
+use history::Index;
+use history::Notes;
 use history::event_history::EventHistory;
 use numbers::entry;
 use probe_text::values::id;
@@ -18,12 +20,13 @@ pub fn called<'a>(
     h: EventHistory,
     kinds: &[u8],
     values: &[usize],
+    index: &Index,
     versions: &'a [Seq; 8192],
-    notes: &[u64; 2048],
+    notes: &Notes,
     boundaries: &'a [Seq; 256],
 ) -> &'a [Seq] {
     if word == VERSION {
-        return h.version(id(kinds, values), notes, versions);
+        return h.version(id(kinds, values), index, notes, versions);
     }
-    h.last_version(ReplicaIdx(entry(values, 0)), versions, boundaries)
+    h.last_version(ReplicaIdx(entry(values, 0)), index, versions, boundaries)
 }

@@ -58,3 +58,12 @@ pub fn words_digest(table: &[u64]) -> u64 {
     }
     h
 }
+
+// The same of a table of row numbers, which are below 2^15.
+pub fn rows_digest(table: &[u16]) -> u64 {
+    let mut h: u64 = 1;
+    for i in 0..table.len() {
+        h = mixed(h, wide((table[i] % 0x8000) as usize));
+    }
+    h
+}

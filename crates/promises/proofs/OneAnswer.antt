@@ -17,7 +17,7 @@ use Rattle.tables.specs.Listing.{Writes, ListsIf}
 use Rattle.clocks.specs.declared.event.Event.{Event}
 use Rattle.clocks.specs.declared.refusal.Listed.{Listed}
 use Rattle.clocks.specs.declared.version_vector.Version.{Version}
-use Rattle.history.specs.declared.event_history.EventHistory.{EventHistory}
+use Rattle.history.specs.Whole.{EventHistory, whole, small}
 use Rattle.history.specs.declared.event_history.HistoryAnswer.{HistoryAnswer}
 use Rattle.history.specs.declared.event_history.PruneAnswer.{PruneAnswer}
 use Rattle.history.specs.declared.event_history.Removed.{Removed}
@@ -38,6 +38,11 @@ OnceWith {K} {A} {R} {S} P b = (κs : K) (a : A κs) (x y : R κs) (s t : S κs)
 
 abbrev pub OnceWith₂ : {K : Type 0} {A R S : K → Type 0} → ((κs : K) → A κs → R κs → S κs → Type 0) → (b c : (κs : K) → S κs → List ℕ) → Type 0
 OnceWith₂ {K} {A} {R} {S} P b c = (κs : K) (a : A κs) (x y : R κs) (s t : S κs) → P κs a x s → P κs a y t → (x ≡ y) × (b κs s ≡ b κs t) × (c κs s ≡ c κs t)
+
+-- or in three
+abbrev pub OnceWith₃ : {K : Type 0} {A R S : K → Type 0} → ((κs : K) → A κs → R κs → S κs → Type 0) → (b c d : (κs : K) → S κs → List ℕ) → Type 0
+OnceWith₃ {K} {A} {R} {S} P b c d =
+    (κs : K) (a : A κs) (x y : R κs) (s t : S κs) → P κs a x s → P κs a y t → (x ≡ y) × (b κs s ≡ b κs t) × (c κs s ≡ c κs t) × (d κs s ≡ d κs t)
 
 -- ---- an equation with a definition: whatever the answer is, a number, a truth value, an enum, a struct, or the numbers of a lent slice
 
@@ -63,12 +68,14 @@ pub rows-once : {number : ℕ} {rows out a a′ : List ℕ} {r r′ : Listed} �
 rows-once p q = (one-answer (p .answer) (q .answer), one-answer (p .content) (q .content))
 
 -- `append`, with the tables of versions and of notes
-pub appends-once : {h : EventHistory} {e : Event} {v versions notes boundaries a b a′ b′ : List ℕ} {r r′ : HistoryAnswer}
-    → Appends h e v versions notes boundaries a b r → Appends h e v versions notes boundaries a′ b′ r′ → (r ≡ r′) × (a ≡ a′) × (b ≡ b′)
-appends-once p q =
+pub appends-once : {h : EventHistory} {e : Event} {v versions notes boundaries a b a′ b′ : List ℕ} (r r′ : HistoryAnswer) (index index′ : List ℕ)
+    → Appends h e v versions notes boundaries a b (r .refusal) (whole (r .history) index)
+    → Appends h e v versions notes boundaries a′ b′ (r′ .refusal) (whole (r′ .history) index′)
+    → (r ≡ r′) × (index ≡ index′) × (a ≡ a′) × (b ≡ b′)
+appends-once r r′ index index′ p q =
     let n = one-answer (p .number) (q .number) in
     let t = one-answer (p .trace) (q .trace) in
-    (λ i. record { refusal = n i; history = t i }, one-answer (p .row) (q .row), one-answer (p .note) (q .note))
+    (λ i. record { refusal = n i; history = small (t i) }, λ i. t i .index, one-answer (p .row) (q .row), one-answer (p .note) (q .note))
 
 -- a removal, with the table of boundary versions
 pub prunes-once : {h : EventHistory} {to versions boundaries a a′ : List ℕ} {r r′ : Removed}
@@ -76,7 +83,7 @@ pub prunes-once : {h : EventHistory} {to versions boundaries a a′ : List ℕ} 
 prunes-once p q =
     let n = one-answer (p .removed) (q .removed) in
     let t = one-answer (p .trace) (q .trace) in
-    (λ i. record { count = n i; history = t i }, one-answer (p .boundary) (q .boundary))
+    (λ i. record { count = n i; history = small (t i) }, one-answer (p .boundary) (q .boundary))
 
 -- and one that may refuse
 pub prunes-or-once : {number : ℕ} {h : EventHistory} {to versions boundaries a a′ : List ℕ} {r r′ : PruneAnswer}
@@ -85,7 +92,7 @@ prunes-or-once p q =
     let m = one-answer (p .refused) (q .refused) in
     let n = one-answer (p .removed) (q .removed) in
     let t = one-answer (p .trace) (q .trace) in
-    (λ i. record { refusal = m i; count = n i; history = t i }, one-answer (p .boundary) (q .boundary))
+    (λ i. record { refusal = m i; count = n i; history = small (t i) }, one-answer (p .boundary) (q .boundary))
 
 -- ---- tables and graph
 

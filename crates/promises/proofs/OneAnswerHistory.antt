@@ -1,5 +1,6 @@
 -- No second answer fits the contract of a public function of `history`, one statement for each; `Post` as in OneAnswerClocks.antt. A version is lent: its
 -- numbers are the same. A call that writes answers the same and leaves the same in every table and buffer.
+use mathlib.Core.List.{[]}
 use denote.Ref.{now}
 use Rattle.history.proofs.event_history.EventHistory.new.Reads.{Post as new}
 use Rattle.history.proofs.event_history.EventHistory.raise.Reads.{Post as raise}
@@ -21,7 +22,7 @@ use Rattle.history.proofs.event_history.EventHistory.append.Reads.{Post as appe
 use Rattle.history.proofs.event_history.EventHistory.remove.Reads.{Post as remove}
 use Rattle.history.proofs.event_history.EventHistory.prune_predecessors.Reads.{Post as prune-predecessors}
 use Rattle.history.proofs.event_history.EventHistory.retain.Reads.{Post as retain}
-use Rattle.promises.proofs.OneAnswer.{one-answer, rows-once, appends-once, prunes-once, prunes-or-once, Once, OnceLent, OnceWith, OnceWith₂}
+use Rattle.promises.proofs.OneAnswer.{one-answer, rows-once, appends-once, prunes-once, prunes-or-once, Once, OnceLent, OnceWith, OnceWith₃}
 
 -- ---- what is asked
 
@@ -32,10 +33,10 @@ pub get-once : Once get
 get-once κs a x y s t p q = one-answer p q
 
 pub len-once : Once len
-len-once κs a x y s t p q = one-answer p q
+len-once κs a x y s t p q = one-answer (p []) (q [])
 
 pub is-empty-once : Once is-empty
-is-empty-once κs a x y s t p q = one-answer p q
+is-empty-once κs a x y s t p q = one-answer (p []) (q [])
 
 pub event-at-once : Once event-at
 event-at-once κs a x y s t p q = one-answer p q
@@ -47,7 +48,7 @@ pub next-once : Once next
 next-once κs a x y s t p q = one-answer p q
 
 pub clear-once : Once clear
-clear-once κs a x y s t p q = one-answer p q
+clear-once κs a x y s t p q = one-answer (p []) (q [])
 
 pub version-once : OnceLent version
 version-once κs a x y s t p q = one-answer p q
@@ -57,33 +58,34 @@ last-version-once κs a x y s t p q = one-answer p q
 
 -- ---- lists
 
-pub predecessors-once : OnceWith predecessors (λ κs s. now (s .1 .1 .0))
+pub predecessors-once : OnceWith predecessors (λ κs s. now (s .1 .1 .1 .0))
 predecessors-once κs a x y s t p q = rows-once p q
 
-pub concurrent-once : OnceWith concurrent (λ κs s. now (s .1 .1 .0))
+pub concurrent-once : OnceWith concurrent (λ κs s. now (s .1 .1 .1 .0))
 concurrent-once κs a x y s t p q = rows-once p q
 
-pub iter-once : OnceWith iter (λ κs s. now (s .1 .0))
+pub iter-once : OnceWith iter (λ κs s. now (s .1 .1 .0))
 iter-once κs a x y s t p q = rows-once p q
 
-pub replica-events-once : OnceWith replica-events (λ κs s. now (s .1 .1 .1 .1 .0))
+pub replica-events-once : OnceWith replica-events (λ κs s. now (s .1 .1 .1 .1 .1 .0))
 replica-events-once κs a x y s t p q = rows-once p q
 
-pub newly-observed-by-once : OnceWith newly-observed-by (λ κs s. now (s .1 .1 .1 .1 .1 .0))
+pub newly-observed-by-once : OnceWith newly-observed-by (λ κs s. now (s .1 .1 .1 .1 .1 .1 .0))
 newly-observed-by-once κs a x y s t p q = rows-once p q
 
 -- ---- what changes the traces
 
-pub append-once : OnceWith₂ append (λ κs s. now (s .1 .1 .1 .0)) (λ κs s. now (s .1 .1 .1 .1 .0))
-append-once κs a x y s t p q = appends-once p q
+-- the table of rows, the versions and the notes
+pub append-once : OnceWith₃ append (λ κs s. now (s .1 .1 .1 .0)) (λ κs s. now (s .1 .1 .1 .1 .0)) (λ κs s. now (s .1 .1 .1 .1 .1 .0))
+append-once κs a x y s t p q = appends-once x y (now (s .1 .1 .1 .0)) (now (t .1 .1 .1 .0)) p q
 
-pub remove-once : OnceWith remove (λ κs s. now (s .1 .1 .1 .0))
+pub remove-once : OnceWith remove (λ κs s. now (s .1 .1 .1 .1 .0))
 remove-once κs a x y s t p q = prunes-once p q
 
-pub prune-predecessors-once : OnceWith prune-predecessors (λ κs s. now (s .1 .1 .1 .0))
+pub prune-predecessors-once : OnceWith prune-predecessors (λ κs s. now (s .1 .1 .1 .1 .0))
 prune-predecessors-once κs a x y s t p q = prunes-or-once p q
 
-pub retain-once : OnceWith retain (λ κs s. now (s .1 .1 .1 .0))
+pub retain-once : OnceWith retain (λ κs s. now (s .1 .1 .1 .1 .0))
 retain-once κs a x y s t p q = prunes-or-once p q
 
 pub history-raise-once : Once raise

@@ -1,10 +1,11 @@
-//! EventHistory: 16 desks with 32 notes each.
+//! EventHistory: 16 desks with 32 notes each, and one with 392 beside 15 with 8.
 
 use std::hint::black_box;
 
 use moirai_protocol::{
+    event::Event,
     replica::ReplicaIdx,
-    state::unstable_state::{IsUnstableCausal, IsUnstableCore, event_history::EventHistory},
+    state::unstable_state::{IsUnstableCausal, IsUnstableCore, IsUnstablePrune, event_history::EventHistory},
 };
 
 use crate::{
@@ -16,7 +17,55 @@ use crate::{
 const HELD: usize = 512;
 
 pub fn measure() -> Vec<Row> {
-    let history = notes::gossip(HELD, 11, true);
+    let mut rows = each_call(notes::gossip(HELD, 11, true));
+    rows.insert(1, again());
+    rows
+}
+
+pub fn beside_a_busy_desk() -> Vec<Row> {
+    each_call(notes::busy(11))
+}
+
+/// Four times as many notes as there are rows: where 512 are held all are removed, so that each row is given again.
+fn again() -> Row {
+    let history = notes::gossip(4 * HELD, 11, true);
+    let names = notes::names();
+    let events: Vec<_> = history.iter().map(|n| notes::event(&names, n)).collect();
+    let ids: Vec<_> = history.iter().map(|n| notes::id(&names, n)).collect();
+    let in_turns = || {
+        let mut log = EventHistory::<u64>::default();
+        for (i, event) in events.iter().enumerate() {
+            log.append(event.clone());
+            if i % HELD == HELD - 1 {
+                ids[i - 15..=i].iter().rev().for_each(|id| log.remove(id));
+            }
+        }
+        log
+    };
+    let events_alone = cloned(&events);
+    let port = Port::new(notes::rows(&history), 4 * HELD);
+    let appends = |time: f64| time / (4 * HELD) as f64;
+    Row {
+        call: "append, rows given again",
+        ours: appends(port.alone(10, port_history_again)),
+        rust: appends(asked(5, HELD, |_| in_turns()) - events_alone),
+        goal: 1.0,
+        limit: 0.0,
+    }
+}
+
+/// What it takes to copy the events that the original is handed.
+fn cloned(events: &[Event<u64>]) -> f64 {
+    per_round(20, |n| {
+        for _ in 0..n {
+            for event in events {
+                black_box(event.clone());
+            }
+        }
+    })
+}
+
+fn each_call(history: Vec<notes::Note>) -> Vec<Row> {
     let rows = notes::rows(&history);
     let names = notes::names();
     let events: Vec<_> = history.iter().map(|n| notes::event(&names, n)).collect();
@@ -31,15 +80,9 @@ pub fn measure() -> Vec<Row> {
     };
     let log = build();
     let port = Port::new(rows, HELD);
-    let copy = copy_of::<33>();
+    let copy = copy_of::<50>();
 
-    let events_alone = per_round(20, |n| {
-        for _ in 0..n {
-            for event in &events {
-                black_box(event.clone());
-            }
-        }
-    });
+    let events_alone = cloned(&events);
     let appends = |time: f64| time / HELD as f64;
     let not_slower = |call, ours, rust| Row { call, ours, rust, goal: 1.0, limit: 0.0 };
     let look_up = |call, ours, rust| Row { call, ours, rust, goal: 1.0, limit: copy };

@@ -39,11 +39,20 @@ fn heard(mine: &mut [usize; DESKS], other: &[usize; DESKS]) {
 /// `count` notes. Before each its desk hears of another; in the middle one desk hears of all, and all hear of that note, so
 /// that half of them can be flushed. With `each` every desk writes so many notes in turn.
 pub fn gossip(count: usize, seed: u64, in_turn: bool) -> Vec<Note> {
+    written(count, seed, |i, random| if in_turn { i % DESKS } else { random.below(DESKS) })
+}
+
+/// 512 notes, of which one desk writes 392 and every other one 8.
+pub fn busy(seed: u64) -> Vec<Note> {
+    written(512, seed, |i, _| if i % 4 == 3 && i / 4 < 120 { 1 + i / 4 % 15 } else { 0 })
+}
+
+fn written(count: usize, seed: u64, writer: impl Fn(usize, &mut Random) -> usize) -> Vec<Note> {
     let mut random = Random(seed);
     let mut clocks = [[0usize; DESKS]; DESKS];
     let mut notes = Vec::with_capacity(count);
     for i in 0..count {
-        let desk = if in_turn { i % DESKS } else { random.below(DESKS) };
+        let desk = writer(i, &mut random);
         let other = random.below(DESKS);
         let heard_of = clocks[other];
         heard(&mut clocks[desk], &heard_of);

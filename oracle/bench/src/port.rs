@@ -18,6 +18,7 @@ shape! {
     Alone(rows: *const usize, len: usize, n: usize, rounds: usize)
     port_graph_roots
     port_history_append
+    port_history_again
 }
 shape! {
     Asks(rows: *const usize, len: usize, n: usize, q: *const usize, ql: usize, m: usize, rounds: usize)

@@ -5,10 +5,10 @@ use Rattle.bench.proofs.histories.built.Statement.{statement}
 use Rattle.bench.proofs.histories.built.Tie as tie
 
 abbrev Inv-loop : tie.InvT-loop
-Inv-loop rows n versions₀ notes₀ boundaries h₀ i₀ versions notes h i = i ≤ n
+Inv-loop rows n index₀ versions₀ notes₀ boundaries h₀ i₀ index versions notes h i = i ≤ n
 
 abbrev μ-loop : tie.MeasureT-loop
-μ-loop rows n versions₀ notes₀ boundaries h₀ i₀ versions notes h i = n - i
+μ-loop rows n index₀ versions₀ notes₀ boundaries h₀ i₀ index versions notes h i = n - i
 
 new-requires : tie.Need-new-requires Inv-loop μ-loop
 new-requires c κs = tt
@@ -19,14 +19,8 @@ loop-holds c = search needs
 row-requires : tie.Need-row-requires Inv-loop μ-loop
 row-requires c κs = tt
 
-event-requires : tie.Need-event-requires Inv-loop μ-loop
-event-requires c κs = tt
-
-version-requires : tie.Need-version-requires Inv-loop μ-loop
-version-requires c κs = tt
-
-append-requires : tie.Need-append-requires Inv-loop μ-loop
-append-requires c κs = tt
+grown-requires : tie.Need-grown-requires Inv-loop μ-loop
+grown-requires c κs = tt
 
 add-i : tie.Need-add-i Inv-loop μ-loop
 add-i c = search needs
@@ -49,9 +43,7 @@ built-spec =
     new-requires
     loop-holds
     row-requires
-    event-requires
-    version-requires
-    append-requires
+    grown-requires
     add-i
     loop-less
     loop-again

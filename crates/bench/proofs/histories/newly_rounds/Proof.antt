@@ -7,10 +7,10 @@ use Rattle.bench.proofs.histories.newly_rounds.Statement.{statement}
 use Rattle.bench.proofs.histories.newly_rounds.Tie as tie
 
 abbrev Inv-loop : tie.InvT-loop
-Inv-loop h queries m rounds notes versions boundaries out₀ sum₀ k₀ out sum k = (k ≤ rounds) × (length out ≡ length out₀)
+Inv-loop h queries m rounds index notes versions boundaries out₀ sum₀ k₀ out sum k = (k ≤ rounds) × (length out ≡ length out₀)
 
 abbrev μ-loop : tie.MeasureT-loop
-μ-loop h queries m rounds notes versions boundaries out₀ sum₀ k₀ out sum k = rounds - k
+μ-loop h queries m rounds index notes versions boundaries out₀ sum₀ k₀ out sum k = rounds - k
 
 loop-holds : tie.Need-loop-holds Inv-loop μ-loop
 loop-holds c = search needs

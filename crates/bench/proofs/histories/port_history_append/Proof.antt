@@ -5,10 +5,10 @@ use Rattle.bench.proofs.histories.port_history_append.Statement.{statem
 use Rattle.bench.proofs.histories.port_history_append.Tie as tie
 
 abbrev Inv-loop : tie.InvT-loop
-Inv-loop rows n rounds versions₀ notes₀ boundaries sum₀ k₀ versions notes sum k = k ≤ rounds
+Inv-loop rows n rounds index₀ versions₀ notes₀ boundaries sum₀ k₀ index versions notes sum k = k ≤ rounds
 
 abbrev μ-loop : tie.MeasureT-loop
-μ-loop rows n rounds versions₀ notes₀ boundaries sum₀ k₀ versions notes sum k = rounds - k
+μ-loop rows n rounds index₀ versions₀ notes₀ boundaries sum₀ k₀ index versions notes sum k = rounds - k
 
 loop-holds : tie.Need-loop-holds Inv-loop μ-loop
 loop-holds c = search needs

@@ -7,10 +7,10 @@ use Rattle.bench.proofs.histories.port_history_iter.Statement.{statemen
 use Rattle.bench.proofs.histories.port_history_iter.Tie as tie
 
 abbrev Inv-loop : tie.InvT-loop
-Inv-loop rows n rounds out₀ h sum₀ k₀ out sum k = (k ≤ rounds) × (length out ≡ length out₀)
+Inv-loop rows n rounds out₀ index h sum₀ k₀ out sum k = (k ≤ rounds) × (length out ≡ length out₀)
 
 abbrev μ-loop : tie.MeasureT-loop
-μ-loop rows n rounds out₀ h sum₀ k₀ out sum k = rounds - k
+μ-loop rows n rounds out₀ index h sum₀ k₀ out sum k = rounds - k
 
 built-requires : tie.Need-built-requires Inv-loop μ-loop
 built-requires c κs = tt

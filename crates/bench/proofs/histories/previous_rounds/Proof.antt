@@ -5,10 +5,10 @@ use Rattle.bench.proofs.histories.previous_rounds.Statement.{statement}
 use Rattle.bench.proofs.histories.previous_rounds.Tie as tie
 
 abbrev Inv-loop : tie.InvT-loop
-Inv-loop h queries m rounds notes versions sum₀ k₀ sum k = k ≤ rounds
+Inv-loop h queries m rounds index notes versions sum₀ k₀ sum k = k ≤ rounds
 
 abbrev μ-loop : tie.MeasureT-loop
-μ-loop h queries m rounds notes versions sum₀ k₀ sum k = rounds - k
+μ-loop h queries m rounds index notes versions sum₀ k₀ sum k = rounds - k
 
 loop-holds : tie.Need-loop-holds Inv-loop μ-loop
 loop-holds c = search needs

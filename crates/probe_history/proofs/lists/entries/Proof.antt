@@ -7,10 +7,10 @@ use Rattle.probe_history.proofs.lists.entries.Statement.{statement}
 use Rattle.probe_history.proofs.lists.entries.Tie as tie
 
 abbrev Inv-loop : tie.InvT-loop
-Inv-loop h list n out₀ at notes at₀ i₀ out at' i = (i ≤ n) × (length out ≡ length out₀)
+Inv-loop h list n out₀ at index notes at₀ i₀ out at' i = (i ≤ n) × (length out ≡ length out₀)
 
 abbrev μ-loop : tie.MeasureT-loop
-μ-loop h list n out₀ at notes at₀ i₀ out at' i = n - i
+μ-loop h list n out₀ at index notes at₀ i₀ out at' i = n - i
 
 loop-holds : tie.Need-loop-holds Inv-loop μ-loop
 loop-holds c = search needs

@@ -1,4 +1,4 @@
-//! A history at its edges: the order of refusals, ranges, masks, boundaries, desks that join, and full traces.
+//! A history at its edges: the order of refusals, ranges, masks, boundaries, desks that join, and a full history.
 
 use runs::{
     lines::TOP,
@@ -38,7 +38,10 @@ pub fn edges(lines: &mut Vec<String>) {
         lines,
     );
     joining(lines);
-    full(lines);
+    alike(lines);
+    one(false, lines);
+    one(true, lines);
+    two(lines);
 }
 
 /// Events that several refusals apply to, before and after a prune.
@@ -161,22 +164,36 @@ fn joining(lines: &mut Vec<String>) {
     }
 }
 
-/// 32 of each of 16 desks with the longest texts, the 33rd refused, and room freed that serves again.
-fn full(lines: &mut Vec<String>) {
-    let append = |desk: usize, sequence: u64| {
-        let mut version = vec![0; 16];
-        version[desk] = sequence;
-        format!(
-            "h.append {desk} {sequence} 4294967295 {m} {m} 4294967295 {v}",
-            m = u64::MAX,
-            v = spaced(&version)
-        )
-    };
+/// A note with the longest texts, of a desk that has heard nothing, or one note of the next desk.
+fn append(desk: usize, sequence: u64, heard: u64) -> String {
+    let mut version = vec![0; 16];
+    version[(desk + 1) % 16] = heard;
+    version[desk] = sequence;
+    format!(
+        "h.append {desk} {sequence} 4294967295 {m} {m} 4294967295 {v}",
+        m = u64::MAX,
+        v = spaced(&version)
+    )
+}
+
+/// The desk's notes up to the last, which alone has heard something; then one out of turn, one regressed and one more, which is full if any is.
+fn up_to_full(desk: usize, last: u64, lines: &mut Vec<String>) {
+    lines.extend((1..=last).map(|sequence| append(desk, sequence, u64::from(sequence == last))));
+    lines.extend([
+        append(desk, last + 2, 0),
+        append(desk, last + 1, 0),
+        append(desk, last + 1, 1),
+    ]);
+}
+
+/// 32 of each of 16 desks, and rows freed that serve again.
+fn alike(lines: &mut Vec<String>) {
     lines.push("h.new 16".to_string());
-    for desk in 0..16 {
-        lines.extend((1..=34).map(|sequence| append(desk, sequence)));
+    for desk in 0..15 {
+        lines.extend((1..=32).map(|sequence| append(desk, sequence, 1)));
     }
-    lines.push(append(3, 32));
+    up_to_full(15, 32, lines);
+    lines.extend((0..16).map(|desk| append(desk, 33, 1)));
     let (top, zeros) = (spaced(&[TOP; 16]), spaced(&[0; 16]));
     for question in [
         "h.iter".to_string(),
@@ -187,20 +204,67 @@ fn full(lines: &mut Vec<String>) {
     }
     at_each_room("h.replica-events 15 0 32", 32, lines);
     at_each_room("h.newly 0 32 4294967295", 1, lines);
-    // Out of turn and regressed are told before full.
-    lines.extend([append(0, 34), append(0, 33).replace(" 33 0", " 33 1"), append(0, 33)]);
     lines.push(numbers_line("h.retain", &[1; 511]));
     lines.push(numbers_line("h.retain", &[1; 512]));
-    lines.push(format!("h.prune 1 2 31 32 33 {}", spaced(&[0; 11])));
-    for desk in 0..6 {
-        lines.extend((33..=66).step_by(1).map(|sequence| append(desk, sequence)));
-        lines.extend([format!("h.last-version {desk}"), "h.len".to_string()]);
-    }
+    let desk_by_desk: Vec<u64> = (0..512).map(|i| u64::from(i % 32 >= i / 32)).collect();
+    lines.push(numbers_line("h.retain", &desk_by_desk));
+    refill(33..=48, lines);
+    lines.push(format!("h.prune 1 2 47 48 49 {}", spaced(&[0; 11])));
+    refill(49..=64, lines);
     lines.extend([
         format!("h.prune {top}"),
         "h.iter".to_string(),
-        append(0, 34),
+        append(0, 1, 1),
         "h.clear".to_string(),
-        append(0, 1),
+        append(0, 1, 1),
     ]);
+}
+
+fn refill(sequences: std::ops::RangeInclusive<u64>, lines: &mut Vec<String>) {
+    for desk in 0..16 {
+        lines.extend(sequences.clone().map(|sequence| append(desk, sequence, 1)));
+        lines.extend([format!("h.last-version {desk}"), "h.len".to_string()]);
+    }
+}
+
+/// One desk takes all rows that are shared, before the others have their eight or after, and gives some back.
+fn one(eights_first: bool, lines: &mut Vec<String>) {
+    let others = |lines: &mut Vec<String>| {
+        for desk in (0..16).filter(|&desk| desk != 3) {
+            lines.extend((1..=8).map(|sequence| append(desk, sequence, 1)));
+        }
+    };
+    lines.push("h.new 16".to_string());
+    if eights_first {
+        others(lines);
+    }
+    up_to_full(3, 392, lines);
+    if !eights_first {
+        others(lines);
+    }
+    lines.extend((0..16).map(|desk| append(desk, 9, 1)));
+    lines.extend(["h.len", "h.replica-events 3 0 392", "h.newly 3 392 4294967295"].map(str::to_string));
+    at_each_room("h.iter", 512, lines);
+    // A row of the shared ones serves whoever comes first; one of a desk's own eight serves that desk alone.
+    for (desk, pruned) in [(3, 1), (0, 1), (5, 1), (3, 4), (15, 8)] {
+        lines.push(format!("h.remove {desk} {pruned} -"));
+        for sequence in 9..=10 {
+            lines.extend([15, 0, 5].map(|desk| append(desk, sequence, 1)));
+        }
+        lines.extend([393, 394].map(|sequence| append(3, sequence, 1)));
+        lines.push("h.len".to_string());
+    }
+}
+
+/// Two desks share what there is beyond the eights, and a third has nothing of it.
+fn two(lines: &mut Vec<String>) {
+    lines.push("h.new 16".to_string());
+    for sequence in 1..=201 {
+        lines.extend([append(0, sequence, 0), append(15, sequence, 0)]);
+    }
+    lines.extend((1..=9).map(|sequence| append(7, sequence, 0)));
+    lines.extend(["h.len", "h.remove 15 1 -"].map(str::to_string));
+    lines.extend([append(7, 9, 0), append(15, 201, 0), append(0, 201, 0)]);
+    lines.extend(["h.len", "h.remove 7 9 -", "h.raise 16"].map(str::to_string));
+    lines.extend([append(0, 201, 0), append(15, 201, 0), append(7, 10, 0)]);
 }

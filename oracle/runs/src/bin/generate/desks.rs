@@ -34,19 +34,24 @@ impl Desks {
     }
 
     pub fn hear(&mut self, random: &mut Random) {
-        let (listener, speaker) = (random.index(self.seen.len()), random.index(self.seen.len()));
+        let (listener, speaker) = (self.any(random), self.any(random));
         self.seen[listener] = join(&self.seen[listener], &self.seen[speaker]);
     }
 
-    pub fn all_hear(&mut self, vector: &[u64]) {
-        for seen in &mut self.seen {
-            *seen = join(seen, vector);
-        }
+    pub fn hear_of(&mut self, desk: usize, vector: &[u64]) {
+        self.seen[desk] = join(&self.seen[desk], vector);
     }
 
-    /// A new event of some desk, `step` sequences further, with no disambiguator; none at the top.
-    pub fn write(&mut self, random: &mut Random, step: u64) -> Option<Event> {
-        let desk = random.index(self.seen.len());
+    pub fn all_hear(&mut self, vector: &[u64]) {
+        (0..self.seen.len()).for_each(|desk| self.hear_of(desk, vector));
+    }
+
+    pub fn any(&self, random: &mut Random) -> usize {
+        random.index(self.seen.len())
+    }
+
+    /// A new event of this desk, `step` sequences further, with no disambiguator; none at the top.
+    pub fn write(&mut self, random: &mut Random, desk: usize, step: u64) -> Option<Event> {
         let sequence = self.seen[desk][desk] + step;
         if sequence > TOP {
             return None;

@@ -145,7 +145,8 @@ impl GraphStory {
         }
         if self.waiting.is_empty() || random.chance(60) {
             let step = if self.gaps { 1 + random.below(3) } else { 1 };
-            self.waiting.extend(self.desks.write(random, step));
+            let desk = self.desks.any(random);
+            self.waiting.extend(self.desks.write(random, desk, step));
         }
         if self.waiting.is_empty() {
             return None;

@@ -1,17 +1,31 @@
 //! History lines: stories of desks whose notes come in turn for each desk, in any order between desks.
 
+mod calls;
+
 use runs::{
     answer::Answer,
     lines::{Event, Id},
+    model::join,
+    random::Random,
 };
 
 use crate::{Page, Story, desks::Desks, values::*};
 
+/// Who writes in a story that fills the history up to the last row and past it.
+#[derive(Clone, Copy)]
+enum Filling {
+    /// One desk.
+    One,
+    /// The desk that has least.
+    Alike,
+    /// Every desk its eight, and then one desk.
+    EightsFirst,
+}
+
 #[derive(Default)]
 pub struct HistoryStory {
     steps: u64,
-    /// Prunes seldom, so that replicas reach their 32.
-    full: bool,
+    filling: Option<Filling>,
     desks: Desks,
     waiting: Vec<Event>,
     brought: Vec<Event>,
@@ -20,65 +34,111 @@ pub struct HistoryStory {
 impl HistoryStory {
     fn start(&mut self, page: &mut Page) {
         let random = &mut page.random;
-        self.full = random.chance(15);
-        let replicas = if self.full {
-            1 + random.below(4)
-        } else {
-            replicas(random)
+        let filling = *random.pick(&[Filling::One, Filling::Alike, Filling::EightsFirst]);
+        self.filling = random.chance(12).then_some(filling);
+        let replicas = match self.filling {
+            Some(Filling::One) => *random.pick(&[1, 2, 16]),
+            Some(_) => *random.pick(&[3, 16, 16, 16]),
+            None => replicas(random),
         };
-        self.steps = if self.full { 300 } else { 20 + random.below(250) };
-        self.desks = Desks::new(replicas, &vec![0; replicas as usize]);
-        self.waiting.clear();
-        self.brought.clear();
+        self.steps = match self.filling {
+            Some(_) => 700 + random.below(400),
+            None => 20 + random.below(250),
+        };
         if random.chance(4) {
             let bad = bad_replicas(random);
             page.say(format!("h.new {bad}"));
         }
         page.say(format!("h.new {replicas}"));
+        self.forget(page);
+        self.brought.clear();
+    }
+
+    /// Nothing has been written yet.
+    fn forget(&mut self, page: &Page) {
+        let replicas = page.probe.history.as_ref().unwrap().replicas;
+        self.desks = Desks::new(replicas, &vec![0; replicas as usize]);
+        self.waiting.clear();
+    }
+
+    /// Whether the story still has rows to fill.
+    fn is_filling(&self, page: &Page) -> bool {
+        let history = page.probe.history.as_ref();
+        self.filling.is_some() && history.is_some_and(|history| !history.shared_rows_are_taken())
+    }
+
+    /// The desk that is heard of next.
+    fn writer(&self, page: &mut Page) -> usize {
+        let traces = &page.probe.history.as_ref().unwrap().traces;
+        let retained = |desk: &usize| traces[*desk].as_ref().map_or(0, |trace| trace.retained.len());
+        let random = &mut page.random;
+        let any = random.index(traces.len());
+        match self.filling.filter(|_| random.chance(90)) {
+            None => any,
+            Some(Filling::One) => 0,
+            Some(Filling::Alike) => (0..traces.len()).min_by_key(retained).unwrap(),
+            Some(Filling::EightsFirst) => (0..traces.len()).min_by_key(|desk| retained(desk).min(8)).unwrap(),
+        }
     }
 
     fn bring(&mut self, page: &mut Page) {
+        let desk = self.writer(page);
         let random = &mut page.random;
         for _ in 0..random.below(3) {
             self.desks.hear(random);
         }
-        if self.waiting.is_empty() || random.chance(60) {
-            self.waiting.extend(self.desks.write(random, 1));
+        let of_desk = |event: &Event| event.id.replica == desk as u64;
+        if !self.waiting.iter().any(of_desk) || self.filling.is_none() && random.chance(50) {
+            self.waiting.extend(self.desks.write(random, desk, 1));
         }
-        if self.waiting.is_empty() {
+        let Some(first) = self.waiting.iter().position(of_desk) else {
             return;
-        }
+        };
         let any = random.index(self.waiting.len());
-        let first = self
-            .waiting
-            .iter()
-            .position(|e| e.id.replica == self.waiting[any].id.replica)
-            .unwrap();
         let at = if random.chance(3) { any } else { first };
         let mut event = self.waiting[at].clone();
         if random.chance(10) {
             event.id.disambiguator = disambiguator(random);
         }
         if random.chance(8) {
-            let replicas = event.version.len() as u64;
-            match random.below(6) {
-                0 => event.id.replica = replicas + random.below(3),
-                1 => event.id.sequence = *random.pick(&EDGES),
-                2 => event.version = shape(random, event.version),
-                3 => {
-                    event.id.sequence += 1;
-                    event.version[event.id.replica as usize] += 1;
-                }
-                4 if !self.brought.is_empty() => event = random.pick(&self.brought).clone(),
-                _ => nudge(random, &mut event.version),
-            }
+            self.spoil(random, &mut event);
         }
         let line = format!("h.append {}", append_words(&mut page.random, &event));
         if page.say(line) == Answer::Done {
-            let same = |e: &Event| e.id.replica == event.id.replica && e.id.sequence == event.id.sequence;
-            self.waiting.retain(|e| !same(e));
+            self.accepted(&mut page.random, &event);
         }
         self.brought.push(event);
+    }
+
+    /// What a desk said that it had heard, it as a rule goes on having heard; else its next notes are Regressed.
+    fn accepted(&mut self, random: &mut Random, event: &Event) {
+        let Id { replica, sequence, .. } = event.id;
+        let mut heard = event.version.clone();
+        if random.chance(10) {
+            heard.fill(0);
+            heard[replica as usize] = sequence;
+        }
+        self.desks.hear_of(replica as usize, &heard);
+        self.waiting
+            .retain(|e| e.id.replica != replica || e.id.sequence > sequence);
+        for waiting in self.waiting.iter_mut().filter(|e| e.id.replica == replica) {
+            waiting.version = join(&waiting.version, &heard);
+        }
+    }
+
+    fn spoil(&self, random: &mut Random, event: &mut Event) {
+        let replicas = event.version.len() as u64;
+        match random.below(6) {
+            0 => event.id.replica = replicas + random.below(3),
+            1 => event.id.sequence = *random.pick(&EDGES),
+            2 => event.version = shape(random, std::mem::take(&mut event.version)),
+            3 => {
+                event.id.sequence += 1;
+                event.version[event.id.replica as usize] += 1;
+            }
+            4 if !self.brought.is_empty() => *event = random.pick(&self.brought).clone(),
+            _ => nudge(random, &mut event.version),
+        }
     }
 
     fn raise(&mut self, page: &mut Page) {
@@ -88,150 +148,6 @@ impl HistoryStory {
         page.say(format!("h.raise {to}"));
         let now = replicas(page);
         self.desks.raise(&mut page.random, now);
-    }
-
-    fn id(&self, page: &mut Page) -> Id {
-        let history = page.probe.history.as_ref().unwrap();
-        let retained: Vec<&Event> = history.retained().collect();
-        let random = &mut page.random;
-        let mut id = match random.below(10) {
-            0..=6 if !retained.is_empty() => random.pick(&retained).id,
-            7..=8 if !self.brought.is_empty() => random.pick(&self.brought).id,
-            _ => Id {
-                replica: replica(random, history.replicas),
-                sequence: if random.chance(30) {
-                    *random.pick(&EDGES)
-                } else {
-                    random.below(6)
-                },
-                disambiguator: None,
-            },
-        };
-        if random.chance(8) {
-            id.disambiguator = disambiguator(random);
-        }
-        if random.chance(8) {
-            id.sequence = id.sequence.saturating_add(random.below(3)).saturating_sub(1);
-        }
-        id
-    }
-
-    fn vector(&self, page: &mut Page) -> Vec<u64> {
-        let history = page.probe.history.as_ref().unwrap();
-        let retained: Vec<&Event> = history.retained().collect();
-        let random = &mut page.random;
-        let mut v = match random.below(6) {
-            0..=1 if !retained.is_empty() => random.pick(&retained).version.clone(),
-            2 => self.desks.common(),
-            3 => self.desks.some_seen(random),
-            4 => history
-                .traces
-                .iter()
-                .map(|t| t.as_ref().map_or(0, |t| t.pruned_through + random.below(4)))
-                .collect(),
-            _ => return vector(random, history.replicas),
-        };
-        if random.chance(25) {
-            nudge(random, &mut v);
-        }
-        shape(random, v)
-    }
-
-    fn range(&self, page: &mut Page) -> String {
-        let history = page.probe.history.as_ref().unwrap();
-        let random = &mut page.random;
-        let o = replica(random, history.replicas);
-        let (first, last) = history
-            .trace(o)
-            .map_or((0, 0), |trace| (trace.pruned_through, trace.last()));
-        let mut a = first + random.below(last - first + 1);
-        let mut b = a + random.below(last - a + 1);
-        match random.below(12) {
-            0 => a = a.saturating_sub(1 + random.below(3)),
-            1 => b += 1 + random.below(3),
-            2 => (a, b) = (first, last),
-            3 => (a, b) = (b, a),
-            4 => a = *random.pick(&EDGES),
-            5 => b = *random.pick(&EDGES),
-            6 => (a, b) = (last, last),
-            7 => (a, b) = (last + 1, last + 1),
-            _ => {}
-        }
-        format!("h.replica-events {o} {a} {b}")
-    }
-
-    fn ask(&self, page: &mut Page) {
-        let line = match page.random.below(24) {
-            0 => format!("h.get {}", id_words(&self.id(page))),
-            1..=2 => format!("h.version {}", id_words(&self.id(page))),
-            3..=4 => {
-                let replicas = page.probe.history.as_ref().unwrap().replicas;
-                format!("h.last-version {}", replica(&mut page.random, replicas))
-            }
-            5 => format!("h.predecessors {}", spaced(&self.vector(page))),
-            6 => format!("h.concurrent {}", spaced(&self.vector(page))),
-            7 => "h.iter".to_string(),
-            8..=10 => self.range(page),
-            11 => page.random.pick(&["h.len", "h.is-empty"]).to_string(),
-            12..=18 => {
-                let id = self.id(page);
-                let replicas = page.probe.history.as_ref().unwrap().replicas;
-                let own = page.random.chance(20);
-                let r = if own {
-                    id.replica
-                } else {
-                    replica(&mut page.random, replicas)
-                };
-                let word = page.random.pick(&["previous", "next", "first"]);
-                format!("h.{word} {} {r}", id_words(&id))
-            }
-            _ => format!("h.newly {}", id_words(&self.id(page))),
-        };
-        page.say(line);
-    }
-
-    /// A mask that keeps a suffix for each replica, or in some cases does not.
-    fn mask(&self, page: &mut Page) -> Vec<u64> {
-        let history = page.probe.history.as_ref().unwrap();
-        let random = &mut page.random;
-        let mut mask = Vec::new();
-        for trace in history.traces.iter().flatten() {
-            let cut = if random.chance(60) {
-                0
-            } else {
-                random.index(trace.retained.len() + 1)
-            };
-            mask.extend((0..trace.retained.len()).map(|i| u64::from(i >= cut)));
-        }
-        let length = mask.len();
-        match random.below(8) {
-            0 if length > 0 => mask[random.index(length)] ^= 1,
-            1 if random.chance(50) => mask.push(1),
-            2 if length > 0 && random.chance(50) => mask[random.index(length)] = *random.pick(&[2, 255]),
-            3 if random.chance(50) => {
-                mask.pop();
-            }
-            _ => {}
-        }
-        mask
-    }
-
-    fn prune(&self, page: &mut Page) {
-        let line = match page.random.below(20) {
-            0..=7 => format!("h.prune {}", spaced(&self.vector(page))),
-            8..=12 => format!("h.remove {}", id_words(&self.id(page))),
-            13..=18 => {
-                let mask = self.mask(page);
-                if mask.is_empty() {
-                    "h.retain".to_string()
-                } else {
-                    format!("h.retain {}", spaced(&mask))
-                }
-            }
-            _ if page.random.chance(30) => "h.clear".to_string(),
-            _ => "h.iter".to_string(),
-        };
-        page.say(line);
     }
 }
 
@@ -246,11 +162,13 @@ impl Story for HistoryStory {
             self.raise(page);
             return;
         }
+        let filling = self.is_filling(page);
         match page.random.below(100) {
+            0..=89 if filling => self.bring(page),
             0..=44 => self.bring(page),
-            45..=70 if self.full => self.bring(page),
             45..=91 => self.ask(page),
-            92..=98 if self.full && page.random.chance(80) => self.ask(page),
+            _ if filling => self.ask(page),
+            92..=96 if self.filling.is_some() => self.bring(page),
             _ => self.prune(page),
         }
     }

@@ -24,9 +24,10 @@ pub struct Page {
 }
 
 impl Page {
+    /// On a full page nothing is printed, and nothing happens.
     fn print(&mut self, line: &[u8]) -> Answer {
         if self.left == 0 {
-            return Answer::Done;
+            return Answer::Refused(18);
         }
         self.left -= 1;
         let written = self.out.write_all(line).and_then(|()| self.out.write_all(b"\n"));

@@ -3,17 +3,14 @@ use Prim.Native.Nat.{_≤_, _-_}
 use mathlib.Core.Path.{_≡_}
 use lib.ListN.{length}
 use borrow.Author.Needs.{needs}
-use Rattle.bench.proofs.histories.port_history_replica_events.Statement.{statement}
-use Rattle.bench.proofs.histories.port_history_replica_events.Tie as tie
+use Rattle.bench.proofs.histories.concurrent_rounds.Statement.{statement}
+use Rattle.bench.proofs.histories.concurrent_rounds.Tie as tie
 
 abbrev Inv-loop : tie.InvT-loop
-Inv-loop rows n queries m rounds out₀ h sum₀ k₀ out sum k = (k ≤ rounds) × (length out ≡ length out₀)
+Inv-loop h queries m rounds index out₀ sum₀ k₀ out sum k = (k ≤ rounds) × (length out ≡ length out₀)
 
 abbrev μ-loop : tie.MeasureT-loop
-μ-loop rows n queries m rounds out₀ h sum₀ k₀ out sum k = rounds - k
-
-built-requires : tie.Need-built-requires Inv-loop μ-loop
-built-requires c κs = tt
+μ-loop h queries m rounds index out₀ sum₀ k₀ out sum k = rounds - k
 
 loop-holds : tie.Need-loop-holds Inv-loop μ-loop
 loop-holds c = search needs
@@ -21,14 +18,11 @@ loop-holds c = search needs
 asked-requires : tie.Need-asked-requires Inv-loop μ-loop
 asked-requires c κs = tt
 
-replica-requires : tie.Need-replica-requires Inv-loop μ-loop
-replica-requires c κs = tt
+version-requires : tie.Need-version-requires Inv-loop μ-loop
+version-requires c κs = tt
 
-seq-requires : tie.Need-seq-requires Inv-loop μ-loop
-seq-requires c κs = tt
-
-replica-events-requires : tie.Need-replica-events-requires Inv-loop μ-loop
-replica-events-requires c κs = tt
+concurrent-requires : tie.Need-concurrent-requires Inv-loop μ-loop
+concurrent-requires c κs = tt
 
 counted-requires : tie.Need-counted-requires Inv-loop μ-loop
 counted-requires c κs = tt
@@ -48,18 +42,16 @@ same-length c = search needs
 returns : tie.Need-returns Inv-loop μ-loop
 returns c = search needs
 
-pub port-history-replica-events-spec : {M : Type 1} → statement M
-port-history-replica-events-spec =
+pub concurrent-rounds-spec : {M : Type 1} → statement M
+concurrent-rounds-spec =
     tie.close
     (tie.spec
     Inv-loop
     μ-loop
-    built-requires
     loop-holds
     asked-requires
-    replica-requires
-    seq-requires
-    replica-events-requires
+    version-requires
+    concurrent-requires
     counted-requires
     add-k
     loop-less

@@ -1,17 +1,14 @@
 -- The turns to come are one less each turn.
 use Prim.Native.Nat.{_≤_, _-_}
 use borrow.Author.Needs.{needs}
-use Rattle.bench.proofs.histories.port_history_version.Statement.{statement}
-use Rattle.bench.proofs.histories.port_history_version.Tie as tie
+use Rattle.bench.proofs.histories.version_rounds.Statement.{statement}
+use Rattle.bench.proofs.histories.version_rounds.Tie as tie
 
 abbrev Inv-loop : tie.InvT-loop
-Inv-loop rows n queries m rounds versions notes h sum₀ k₀ sum k = k ≤ rounds
+Inv-loop h queries m rounds index notes versions sum₀ k₀ sum k = k ≤ rounds
 
 abbrev μ-loop : tie.MeasureT-loop
-μ-loop rows n queries m rounds versions notes h sum₀ k₀ sum k = rounds - k
-
-built-requires : tie.Need-built-requires Inv-loop μ-loop
-built-requires c κs = tt
+μ-loop h queries m rounds index notes versions sum₀ k₀ sum k = rounds - k
 
 loop-holds : tie.Need-loop-holds Inv-loop μ-loop
 loop-holds c = search needs
@@ -40,13 +37,12 @@ loop-again c = search needs
 returns : tie.Need-returns Inv-loop μ-loop
 returns c = search needs
 
-pub port-history-version-spec : {M : Type 1} → statement M
-port-history-version-spec =
+pub version-rounds-spec : {M : Type 1} → statement M
+version-rounds-spec =
     tie.close
     (tie.spec
     Inv-loop
     μ-loop
-    built-requires
     loop-holds
     asked-requires
     id-requires

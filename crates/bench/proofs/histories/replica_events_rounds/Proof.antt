@@ -3,17 +3,14 @@ use Prim.Native.Nat.{_≤_, _-_}
 use mathlib.Core.Path.{_≡_}
 use lib.ListN.{length}
 use borrow.Author.Needs.{needs}
-use Rattle.bench.proofs.histories.port_history_concurrent.Statement.{statement}
-use Rattle.bench.proofs.histories.port_history_concurrent.Tie as tie
+use Rattle.bench.proofs.histories.replica_events_rounds.Statement.{statement}
+use Rattle.bench.proofs.histories.replica_events_rounds.Tie as tie
 
 abbrev Inv-loop : tie.InvT-loop
-Inv-loop rows n queries m rounds out₀ h sum₀ k₀ out sum k = (k ≤ rounds) × (length out ≡ length out₀)
+Inv-loop h queries m rounds index out₀ sum₀ k₀ out sum k = (k ≤ rounds) × (length out ≡ length out₀)
 
 abbrev μ-loop : tie.MeasureT-loop
-μ-loop rows n queries m rounds out₀ h sum₀ k₀ out sum k = rounds - k
-
-built-requires : tie.Need-built-requires Inv-loop μ-loop
-built-requires c κs = tt
+μ-loop h queries m rounds index out₀ sum₀ k₀ out sum k = rounds - k
 
 loop-holds : tie.Need-loop-holds Inv-loop μ-loop
 loop-holds c = search needs
@@ -21,11 +18,14 @@ loop-holds c = search needs
 asked-requires : tie.Need-asked-requires Inv-loop μ-loop
 asked-requires c κs = tt
 
-version-requires : tie.Need-version-requires Inv-loop μ-loop
-version-requires c κs = tt
+replica-requires : tie.Need-replica-requires Inv-loop μ-loop
+replica-requires c κs = tt
 
-concurrent-requires : tie.Need-concurrent-requires Inv-loop μ-loop
-concurrent-requires c κs = tt
+seq-requires : tie.Need-seq-requires Inv-loop μ-loop
+seq-requires c κs = tt
+
+replica-events-requires : tie.Need-replica-events-requires Inv-loop μ-loop
+replica-events-requires c κs = tt
 
 counted-requires : tie.Need-counted-requires Inv-loop μ-loop
 counted-requires c κs = tt
@@ -45,17 +45,17 @@ same-length c = search needs
 returns : tie.Need-returns Inv-loop μ-loop
 returns c = search needs
 
-pub port-history-concurrent-spec : {M : Type 1} → statement M
-port-history-concurrent-spec =
+pub replica-events-rounds-spec : {M : Type 1} → statement M
+replica-events-rounds-spec =
     tie.close
     (tie.spec
     Inv-loop
     μ-loop
-    built-requires
     loop-holds
     asked-requires
-    version-requires
-    concurrent-requires
+    replica-requires
+    seq-requires
+    replica-events-requires
     counted-requires
     add-k
     loop-less

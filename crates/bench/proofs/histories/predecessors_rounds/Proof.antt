@@ -3,17 +3,14 @@ use Prim.Native.Nat.{_≤_, _-_}
 use mathlib.Core.Path.{_≡_}
 use lib.ListN.{length}
 use borrow.Author.Needs.{needs}
-use Rattle.bench.proofs.histories.port_history_predecessors.Statement.{statement}
-use Rattle.bench.proofs.histories.port_history_predecessors.Tie as tie
+use Rattle.bench.proofs.histories.predecessors_rounds.Statement.{statement}
+use Rattle.bench.proofs.histories.predecessors_rounds.Tie as tie
 
 abbrev Inv-loop : tie.InvT-loop
-Inv-loop rows n queries m rounds out₀ h sum₀ k₀ out sum k = (k ≤ rounds) × (length out ≡ length out₀)
+Inv-loop h queries m rounds index out₀ sum₀ k₀ out sum k = (k ≤ rounds) × (length out ≡ length out₀)
 
 abbrev μ-loop : tie.MeasureT-loop
-μ-loop rows n queries m rounds out₀ h sum₀ k₀ out sum k = rounds - k
-
-built-requires : tie.Need-built-requires Inv-loop μ-loop
-built-requires c κs = tt
+μ-loop h queries m rounds index out₀ sum₀ k₀ out sum k = rounds - k
 
 loop-holds : tie.Need-loop-holds Inv-loop μ-loop
 loop-holds c = search needs
@@ -45,13 +42,12 @@ same-length c = search needs
 returns : tie.Need-returns Inv-loop μ-loop
 returns c = search needs
 
-pub port-history-predecessors-spec : {M : Type 1} → statement M
-port-history-predecessors-spec =
+pub predecessors-rounds-spec : {M : Type 1} → statement M
+predecessors-rounds-spec =
     tie.close
     (tie.spec
     Inv-loop
     μ-loop
-    built-requires
     loop-holds
     asked-requires
     version-requires
