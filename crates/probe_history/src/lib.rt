@@ -36,11 +36,7 @@ pub fn no_traces() -> Traces {
 }
 
 // A number that tells two contents of the tables apart.
-pub fn tables_digest(
-    versions: &[Seq; 8192],
-    notes: &[u64; 2048],
-    boundaries: &[Seq; 256],
-) -> u64 {
+pub fn tables_digest(versions: &[Seq; 8192], notes: &[u64; 2048], boundaries: &[Seq; 256]) -> u64 {
     digest(versions) ^ (words_digest(notes) << 1) ^ (digest(boundaries) << 2)
 }
 

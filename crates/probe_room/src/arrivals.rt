@@ -15,12 +15,15 @@ use room::waiting_room::WaitingRoom;
 use room::waiting_room::line_at;
 use text::bytes::put;
 
+fn row_digest(row: [usize; 22]) -> u64 {
+    digest(&row)
+}
+
 // A number that tells two contents of the room's table apart.
 fn rows_digest(table: &[[usize; 22]; 65]) -> u64 {
     let mut h: u64 = 1;
     for i in 0..65usize {
-        let row = table[i];
-        h = ((h << 7) | (h >> 57)) ^ digest(&row);
+        h = ((h << 7) | (h >> 57)) ^ row_digest(table[i]);
     }
     h
 }
@@ -52,16 +55,7 @@ pub fn arrived(
     let event = event(kinds, values);
     let v = vector(kinds, values, 6);
     let h = t.history;
-    let a = w.arrive(
-        h,
-        event,
-        v,
-        table,
-        &mut report,
-        versions,
-        notes,
-        boundaries,
-    );
+    let a = w.arrive(h, event, v, table, &mut report, versions, notes, boundaries);
     let after = whole_digest(table, versions, notes, boundaries);
     told(a, &report, out, at, is_changed(h, w, a, before == after))
 }
