@@ -142,6 +142,7 @@ fn run(
     boundaries: &mut [Seq; 256],
     slots: &mut Slots,
     pasts: &mut Pasts,
+    table: &mut [[usize; 22]; 65],
 ) {
     let mut st = State::new();
     let mut r = unread();
@@ -162,6 +163,7 @@ fn run(
                 boundaries,
                 slots,
                 pasts,
+                table,
             );
         }
         turns -= 1;
@@ -177,6 +179,7 @@ fn main() {
     let mut boundaries = [0; 256];
     let mut slots = [[0; 256]; COLUMNS];
     let mut pasts = [0u64; 1024];
+    let mut table = [[0; 22]; 65];
     run(
         &mut input,
         &mut line,
@@ -186,5 +189,6 @@ fn main() {
         &mut boundaries,
         &mut slots,
         &mut pasts,
+        &mut table,
     );
 }

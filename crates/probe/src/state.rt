@@ -10,6 +10,7 @@ use probe_graph::Log;
 use probe_graph::Logged;
 use probe_history::Traced;
 use probe_history::Traces;
+use probe_room::Visited;
 use probe_text::answers::refused;
 use probe_text::lent::MOST_ROOM;
 use probe_text::parts::bytes;
@@ -18,6 +19,7 @@ use probe_text::tokens::MOST_TOKENS;
 use probe_text::tokens::parse;
 use probe_text::words::NO_ROW;
 use probe_text::words::row;
+use room::waiting_room::WaitingRoom;
 use text::bytes::byte_at;
 
 pub struct State {
@@ -29,6 +31,8 @@ pub struct State {
     replicas: usize,
     log: Log,
     traces: Traces,
+    // The waiting room before the history, an empty one after each good h.new.
+    waiting: WaitingRoom,
 }
 
 impl State {
@@ -39,6 +43,7 @@ impl State {
             replicas: 0,
             log: probe_graph::no_log(),
             traces: probe_history::no_traces(),
+            waiting: WaitingRoom::new(),
         }
     }
 
@@ -65,6 +70,18 @@ impl State {
         let traces = a.traces;
         self.at = a.at;
         self.traces = traces;
+        if a.is_new {
+            self.waiting = WaitingRoom::new();
+        }
+        self
+    }
+
+    fn visited(mut self, a: Visited) -> State {
+        let traces = a.traces;
+        let waiting = a.room;
+        self.at = a.at;
+        self.traces = traces;
+        self.waiting = waiting;
         self
     }
 
@@ -95,7 +112,7 @@ fn room(st: State, line: &[u8], kinds: &[u8], values: &[usize], out: &mut [u8]) 
     st
 }
 
-// One line, taken apart and handed to the module of its word. The tables are those of the history and of the graph.
+// One line, taken apart and handed to the module of its word. The tables are those of the history, of the graph and of the waiting room.
 pub fn answer(
     st: State,
     line: &[u8],
@@ -105,6 +122,7 @@ pub fn answer(
     boundaries: &mut [Seq; 256],
     slots: &mut Slots,
     pasts: &mut Pasts,
+    table: &mut [[usize; 22]; 65],
 ) -> State {
     let mut kinds = [0u8; MOST_TOKENS];
     let mut values = [0usize; MOST_TOKENS];
@@ -122,6 +140,7 @@ pub fn answer(
         boundaries,
         slots,
         pasts,
+        table,
     )
 }
 
@@ -184,6 +203,37 @@ fn history_word(
     ))
 }
 
+// A word of the waiting room, which is lent its table and those of the history; or `room N`.
+fn room_word(
+    st: State,
+    line: &[u8],
+    kinds: &[u8],
+    values: &[usize],
+    out: &mut [u8; 65_536],
+    versions: &mut [Seq; 8192],
+    notes: &mut [u64; 2048],
+    boundaries: &[Seq; 256],
+    table: &mut [[usize; 22]; 65],
+) -> State {
+    if byte_at(line, 1) != b'.' {
+        return room(st, line, kinds, values, out);
+    }
+    st.visited(probe_room::answer(
+        st.traces,
+        st.waiting,
+        st.room,
+        line,
+        kinds,
+        values,
+        out,
+        st.at,
+        table,
+        versions,
+        notes,
+        boundaries,
+    ))
+}
+
 fn by_word(
     st: State,
     line: &[u8],
@@ -195,11 +245,22 @@ fn by_word(
     boundaries: &mut [Seq; 256],
     slots: &mut Slots,
     pasts: &mut Pasts,
+    table: &mut [[usize; 22]; 65],
 ) -> State {
     match byte_at(line, 0) {
         b'c' => clock_word(st, line, kinds, values, out),
         b'g' => graph_word(st, line, kinds, values, out, slots, pasts),
         b'h' => history_word(st, line, kinds, values, out, versions, notes, boundaries),
-        _ => room(st, line, kinds, values, out),
+        _ => room_word(
+            st,
+            line,
+            kinds,
+            values,
+            out,
+            versions,
+            notes,
+            boundaries,
+            table,
+        ),
     }
 }
