@@ -29,6 +29,7 @@ pub mod OneAnswerNumbers
 pub mod OneAnswerClocks
 pub mod OneAnswerPositions
 pub mod OneAnswerHistory
+pub mod OneAnswerRoom
 pub mod OneAnswerGraph
 pub mod OneAnswerWhy
 pub mod OneAnswerTables
