@@ -59,8 +59,7 @@ OnceIn {K} {A} {R} {S} P b c d e = (κs : K) (a : A κs) (x y : R κs) (s t : S 
 
 pub arrive-once : OnceIn arrive (λ κs s. now (s .1 .1 .1 .1 .0)) (λ κs s. now (s .1 .1 .1 .1 .1 .0)) (λ κs s. now (s .1 .1 .1 .1 .1 .1 .0)) (λ κs s. now (s .1 .1 .1 .1 .1 .1 .1 .0))
 arrive-once κs a x y s t p q =
-    let e : _≡_ {A = LentArrival} _ _ = one-answer p q in
-    (
+    let e : _≡_ {A = LentArrival} _ _ = one-answer p q in (
       ap answered e,
       ap (λ (u : LentArrival). u .lent .rows) e,
       ap (λ (u : LentArrival). u .lent .lines) e,
