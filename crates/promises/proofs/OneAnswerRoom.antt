@@ -51,18 +51,20 @@ waiting-once κs a x y s t p q = slots-once p q
 abbrev answered : LentArrival → Arrived
 answered a = record { refusal = a .number; history = a .lent .world .history; room = record { len = a .lent .len }; told = a .lent .told }
 
--- the answer, the rows of notes and the lines of the report, then the history's versions and notes
+-- the answer, the rows of notes and the lines of the report, then the history's table of rows, its versions and its notes
 abbrev pub OnceIn : {K : Type 0} {A R S : K → Type 0} → ((κs : K) → A κs → R κs → S κs → Type 0) → (b c : (κs : K) → S κs → List (List ℕ))
-    → (d e : (κs : K) → S κs → List ℕ) → Type 0
-OnceIn {K} {A} {R} {S} P b c d e = (κs : K) (a : A κs) (x y : R κs) (s t : S κs) → P κs a x s → P κs a y t
-    → (x ≡ y) × (b κs s ≡ b κs t) × (c κs s ≡ c κs t) × (d κs s ≡ d κs t) × (e κs s ≡ e κs t)
+    → (d e f : (κs : K) → S κs → List ℕ) → Type 0
+OnceIn {K} {A} {R} {S} P b c d e f = (κs : K) (a : A κs) (x y : R κs) (s t : S κs) → P κs a x s → P κs a y t
+    → (x ≡ y) × (b κs s ≡ b κs t) × (c κs s ≡ c κs t) × (d κs s ≡ d κs t) × (e κs s ≡ e κs t) × (f κs s ≡ f κs t)
 
 pub arrive-once : OnceIn arrive (λ κs s. now (s .1 .1 .1 .1 .0)) (λ κs s. now (s .1 .1 .1 .1 .1 .0)) (λ κs s. now (s .1 .1 .1 .1 .1 .1 .0)) (λ κs s. now (s .1 .1 .1 .1 .1 .1 .1 .0))
+    (λ κs s. now (s .1 .1 .1 .1 .1 .1 .1 .1 .0))
 arrive-once κs a x y s t p q =
     let e : _≡_ {A = LentArrival} _ _ = one-answer p q in (
       ap answered e,
       ap (λ (u : LentArrival). u .lent .rows) e,
       ap (λ (u : LentArrival). u .lent .lines) e,
+      ap (λ (u : LentArrival). u .lent .world .index) e,
       ap (λ (u : LentArrival). u .lent .world .versions) e,
       ap (λ (u : LentArrival). u .lent .world .notes) e,
     )
