@@ -6,6 +6,7 @@ use crate::rows::event;
 use crate::rows::id;
 use crate::rows::replica;
 use crate::rows::row;
+use crate::rows::rows_from;
 use crate::rows::seq;
 use crate::rows::version;
 use clocks::vector::Seq;
@@ -14,6 +15,32 @@ use history::Notes;
 use history::event_history::EventHistory;
 use history::event_history::Found;
 use numbers::less;
+
+// So many notes more. The history goes on in one place: handed over in each turn, two copies of it would be counted with each append.
+fn grown(
+    h: EventHistory,
+    rows: &[usize],
+    n: usize,
+    index: &mut Index,
+    versions: &mut [Seq; 8192],
+    notes: &mut Notes,
+    boundaries: &[Seq; 256],
+) -> EventHistory {
+    let mut h = h;
+    for i in 0..n {
+        let note = row(rows, i);
+        let a = h.append(
+            event(note),
+            version(note),
+            index,
+            versions,
+            notes,
+            boundaries,
+        );
+        h = a.history;
+    }
+    h
+}
 
 fn built(
     rows: &[usize],
@@ -24,32 +51,8 @@ fn built(
     boundaries: &[Seq; 256],
 ) -> EventHistory {
     let a = EventHistory::new(16);
-    let mut h = a.history;
-    for i in 0..n {
-        let note = row(rows, i);
-        h = grown(h, note, index, versions, notes, boundaries);
-    }
-    h
-}
-
-// One note more.
-fn grown(
-    h: EventHistory,
-    note: &[usize],
-    index: &mut Index,
-    versions: &mut [Seq; 8192],
-    notes: &mut Notes,
-    boundaries: &[Seq; 256],
-) -> EventHistory {
-    let a = h.append(
-        event(note),
-        version(note),
-        index,
-        versions,
-        notes,
-        boundaries,
-    );
-    a.history
+    let h = a.history;
+    grown(h, rows, n, index, versions, notes, boundaries)
 }
 
 // One more where something was found.
@@ -91,24 +94,20 @@ fn emptied(
     h
 }
 
-// Note i more; after each 512 notes all are removed.
+// 512 notes more, and all of them removed.
 fn turned(
     h: EventHistory,
     rows: &[usize],
-    i: usize,
     index: &mut Index,
     versions: &mut [Seq; 8192],
     notes: &mut Notes,
     boundaries: &mut [Seq; 256],
 ) -> EventHistory {
-    let h = grown(h, row(rows, i), index, versions, notes, boundaries);
-    if i % 512 != 511 {
-        return h;
-    }
-    emptied(h, rows, i, index, versions, boundaries)
+    let h = grown(h, rows, 512, index, versions, notes, boundaries);
+    emptied(h, rows, 511, index, versions, boundaries)
 }
 
-// All notes, with no more than 512 held: from the second turn on every row is given again.
+// All notes, 512 at a time: from the second time on every row is given again.
 fn in_turns(
     rows: &[usize],
     n: usize,
@@ -119,8 +118,10 @@ fn in_turns(
 ) -> EventHistory {
     let a = EventHistory::new(16);
     let mut h = a.history;
-    for i in 0..n {
-        h = turned(h, rows, i, index, versions, notes, boundaries);
+    let mut from: usize = 0;
+    for i in 0..n / 512 {
+        h = turned(h, rows_from(rows, from), index, versions, notes, boundaries);
+        from = std::num::wrapping_add_usize(from, 512);
     }
     h
 }

@@ -20,6 +20,18 @@ pub fn row<'a>(rows: &'a [usize], i: usize) -> &'a [usize] {
     &rows[at..at + ROW]
 }
 
+// The rows from row i on; nothing where there are none.
+pub fn rows_from<'a>(rows: &'a [usize], i: usize) -> &'a [usize] {
+    if 65_536 <= i {
+        return &rows[0..0];
+    }
+    let at = ROW * i;
+    if rows.len() < at {
+        return &rows[0..0];
+    }
+    &rows[at..rows.len()]
+}
+
 // The row that the turn k takes, of m in turn.
 pub fn asked<'a>(rows: &'a [usize], k: usize, m: usize) -> &'a [usize] {
     if m == 0 {
