@@ -145,6 +145,7 @@ fn run(
     boundaries: &mut [Seq; 256],
     slots: &mut Slots,
     pasts: &mut Pasts,
+    table: &mut [[usize; 22]; 65],
 ) {
     let mut st = State::new();
     let mut r = unread();
@@ -166,6 +167,7 @@ fn run(
                 boundaries,
                 slots,
                 pasts,
+                table,
             );
         }
         turns -= 1;
@@ -182,6 +184,7 @@ fn main() {
     let mut boundaries = [0; 256];
     let mut slots = [[0; 256]; COLUMNS];
     let mut pasts = [0u64; 1024];
+    let mut table = [[0; 22]; 65];
     run(
         &mut input,
         &mut line,
@@ -192,5 +195,6 @@ fn main() {
         &mut boundaries,
         &mut slots,
         &mut pasts,
+        &mut table,
     );
 }

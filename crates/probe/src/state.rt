@@ -12,6 +12,7 @@ use probe_graph::Log;
 use probe_graph::Logged;
 use probe_history::Traced;
 use probe_history::Traces;
+use probe_room::Visited;
 use probe_text::answers::refused;
 use probe_text::lent::MOST_ROOM;
 use probe_text::parts::bytes;
@@ -20,6 +21,7 @@ use probe_text::tokens::MOST_TOKENS;
 use probe_text::tokens::parse;
 use probe_text::words::NO_ROW;
 use probe_text::words::row;
+use room::waiting_room::WaitingRoom;
 use text::bytes::byte_at;
 
 pub struct State {
@@ -31,6 +33,8 @@ pub struct State {
     replicas: usize,
     log: Log,
     traces: Traces,
+    // The waiting room before the history, an empty one after each good h.new.
+    waiting: WaitingRoom,
 }
 
 impl State {
@@ -41,6 +45,7 @@ impl State {
             replicas: 0,
             log: probe_graph::no_log(),
             traces: probe_history::no_traces(),
+            waiting: WaitingRoom::new(),
         }
     }
 
@@ -67,6 +72,18 @@ impl State {
         let traces = a.traces;
         self.at = a.at;
         self.traces = traces;
+        if a.is_new {
+            self.waiting = WaitingRoom::new();
+        }
+        self
+    }
+
+    fn visited(mut self, a: Visited) -> State {
+        let traces = a.traces;
+        let waiting = a.room;
+        self.at = a.at;
+        self.traces = traces;
+        self.waiting = waiting;
         self
     }
 
@@ -97,7 +114,7 @@ fn room(st: State, line: &[u8], kinds: &[u8], values: &[usize], out: &mut [u8]) 
     st
 }
 
-// One line, taken apart and handed to the module of its word. The tables are those of the history and of the graph.
+// One line, taken apart and handed to the module of its word. The tables are those of the history, of the graph and of the waiting room.
 pub fn answer(
     st: State,
     line: &[u8],
@@ -108,6 +125,7 @@ pub fn answer(
     boundaries: &mut [Seq; 256],
     slots: &mut Slots,
     pasts: &mut Pasts,
+    table: &mut [[usize; 22]; 65],
 ) -> State {
     let mut kinds = [0u8; MOST_TOKENS];
     let mut values = [0usize; MOST_TOKENS];
@@ -126,6 +144,7 @@ pub fn answer(
         boundaries,
         slots,
         pasts,
+        table,
     )
 }
 
@@ -190,6 +209,39 @@ fn history_word(
     ))
 }
 
+// A word of the waiting room, which is lent its table and those of the history; or `room N`.
+fn room_word(
+    st: State,
+    line: &[u8],
+    kinds: &[u8],
+    values: &[usize],
+    out: &mut [u8; 65_536],
+    index: &mut Index,
+    versions: &mut [Seq; 8192],
+    notes: &mut Notes,
+    boundaries: &[Seq; 256],
+    table: &mut [[usize; 22]; 65],
+) -> State {
+    if byte_at(line, 1) != b'.' {
+        return room(st, line, kinds, values, out);
+    }
+    st.visited(probe_room::answer(
+        st.traces,
+        st.waiting,
+        st.room,
+        line,
+        kinds,
+        values,
+        out,
+        st.at,
+        table,
+        index,
+        versions,
+        notes,
+        boundaries,
+    ))
+}
+
 fn by_word(
     st: State,
     line: &[u8],
@@ -202,6 +254,7 @@ fn by_word(
     boundaries: &mut [Seq; 256],
     slots: &mut Slots,
     pasts: &mut Pasts,
+    table: &mut [[usize; 22]; 65],
 ) -> State {
     match byte_at(line, 0) {
         b'c' => clock_word(st, line, kinds, values, out),
@@ -217,6 +270,17 @@ fn by_word(
             notes,
             boundaries,
         ),
-        _ => room(st, line, kinds, values, out),
+        _ => room_word(
+            st,
+            line,
+            kinds,
+            values,
+            out,
+            index,
+            versions,
+            notes,
+            boundaries,
+            table,
+        ),
     }
 }

@@ -18,7 +18,7 @@ use probe_text::values::mask;
 use probe_text::values::vector;
 use probe_text::words::row;
 
-const NEW: usize = 0;
+pub const NEW: usize = 0;
 
 const APPEND: usize = 1;
 

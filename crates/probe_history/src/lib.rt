@@ -17,14 +17,15 @@ use probe_text::words::NO_ROW;
 
 // The history, and whether a good h.new came.
 pub struct Traces {
-    made: bool,
-    history: EventHistory,
+    pub made: bool,
+    pub history: EventHistory,
 }
 
-// The place behind the answer, and the history.
+// The place behind the answer, the history, and whether it is a new one.
 pub struct Traced {
     pub at: usize,
     pub traces: Traces,
+    pub is_new: bool,
 }
 
 // No history yet: it is asked nothing.
@@ -38,7 +39,7 @@ pub fn no_traces() -> Traces {
 }
 
 // A number that tells two contents of the tables apart.
-fn tables_digest(
+pub fn tables_digest(
     index: &Index,
     versions: &[Seq; 8192],
     notes: &Notes,
@@ -80,6 +81,7 @@ pub fn answer(
                 boundaries,
             ),
             traces: t,
+            is_new: false,
         };
     }
     changed(
@@ -122,7 +124,16 @@ fn changed(
             is_changed(c.refused, c.changed, before == after),
         ),
         traces,
+        is_new: is_new(word, c.refused),
     }
+}
+
+// A history was made.
+fn is_new(word: usize, refused: bool) -> bool {
+    if refused {
+        return false;
+    }
+    word == changes::NEW
 }
 
 fn is_changed(refused: bool, changed: bool, same_tables: bool) -> bool {

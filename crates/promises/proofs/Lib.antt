@@ -36,6 +36,7 @@ pub mod OneAnswerClocks
 pub mod OneAnswerPositions
 pub mod OneAnswerHistory
 pub mod OneAnswerFirst
+pub mod OneAnswerRoom
 pub mod OneAnswerGraph
 pub mod OneAnswerWhy
 pub mod OneAnswerTables

@@ -20,6 +20,8 @@ pub enum Answer {
     Events(Vec<Event>),
     Ids(Vec<Id>),
     Pair(Id, Id),
+    /// What the waiting room handed over, each with the history's number. It is no list that room is lent for.
+    Report(Vec<(Id, u64)>),
     /// Lengths or positions.
     Numbers(Vec<u64>),
 }
@@ -40,6 +42,25 @@ pub fn event_text(event: &Event) -> String {
         ..
     } = event;
     format!("{}:{lamport}:{payload}:{revision}", id_text(id))
+}
+
+/// The report that the text of an answer is.
+pub fn report_of(text: &str) -> Option<Vec<(Id, u64)>> {
+    let handed_over = |word: &str| {
+        let (id, number) = word.split_once('/')?;
+        let parts: Vec<&str> = id.split(':').collect();
+        let [replica, sequence, disambiguator] = parts[..] else {
+            return None;
+        };
+        let id = Id {
+            replica: replica.parse().ok()?,
+            sequence: sequence.parse().ok()?,
+            disambiguator: (disambiguator != "-").then(|| disambiguator.parse()).transpose().ok()?,
+        };
+        Some((id, number.parse().ok()?))
+    };
+    let mut words = text.split(' ');
+    (words.next() == Some("0")).then(|| words.map(handed_over).collect())?
 }
 
 impl Answer {
@@ -71,6 +92,7 @@ impl Answer {
             Answer::Events(list) => list.iter().map(event_text).collect(),
             Answer::Ids(list) => list.iter().map(id_text).collect(),
             Answer::Pair(first, second) => vec![id_text(first), id_text(second)],
+            Answer::Report(list) => list.iter().map(|(id, n)| format!("{}/{n}", id_text(id))).collect(),
             Answer::Numbers(list) => numbers(list),
         };
         std::iter::once("0".to_string())

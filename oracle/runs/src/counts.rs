@@ -2,7 +2,7 @@
 
 use std::collections::BTreeMap;
 
-use crate::verdict::Verdict;
+use crate::{lines::Id, verdict::Verdict};
 
 #[derive(Default)]
 pub struct Row {
@@ -17,11 +17,14 @@ pub struct Counts {
     pub rows: BTreeMap<String, Row>,
     /// By refusal number, how often the original was seen to panic.
     pub panics: BTreeMap<u64, u64>,
+    /// By the history's number, how many notes the waiting room handed over.
+    pub handed_over: BTreeMap<u64, u64>,
 }
 
 const HEADING: &str = "word                  lines    equal  not asked  refused, as number:times";
 const ALL: &str = "all";
 const PANICS: &str = "of the refused, the original was seen to panic for";
+const HANDED_OVER: &str = "notes handed over by the waiting room, by the history's number";
 
 fn pairs_text(pairs: &BTreeMap<u64, u64>) -> String {
     let shown: Vec<String> = pairs
@@ -95,11 +98,18 @@ impl Counts {
         }
     }
 
+    pub fn count_handed_over(&mut self, report: &[(Id, u64)]) {
+        for (_, number) in report {
+            *self.handed_over.entry(*number).or_default() += 1;
+        }
+    }
+
     pub fn add(&mut self, other: &Counts) {
         for (word, row) in &other.rows {
             self.rows.entry(word.clone()).or_default().add(row);
         }
         add_pairs(&mut self.panics, &other.panics);
+        add_pairs(&mut self.handed_over, &other.handed_over);
     }
 
     pub fn all(&self) -> Row {
@@ -115,6 +125,7 @@ impl Counts {
         }
         println!("{}", self.all().text(ALL).trim_end());
         println!("{PANICS} {}", pairs_text(&self.panics));
+        println!("{HANDED_OVER} {}", pairs_text(&self.handed_over));
     }
 
     /// A table that `print` printed, or the line that is none of it.
@@ -123,6 +134,8 @@ impl Counts {
         for line in text.lines().filter(|line| *line != HEADING) {
             if let Some(panics) = line.strip_prefix(PANICS) {
                 counts.panics = pairs_of(panics.split_whitespace()).ok_or(line)?;
+            } else if let Some(handed_over) = line.strip_prefix(HANDED_OVER) {
+                counts.handed_over = pairs_of(handed_over.split_whitespace()).ok_or(line)?;
             } else {
                 let (word, row) = Row::read(line).ok_or(line)?;
                 if word != ALL {

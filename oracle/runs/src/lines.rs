@@ -32,6 +32,7 @@ pub enum Command {
     Clock(Clock),
     Graph(Call),
     History(Call),
+    WaitingRoom(Visit),
 }
 
 #[derive(Clone, Debug)]
@@ -48,6 +49,14 @@ pub enum Clock {
     Increment(u64, Vector),
     VersionJoin(u64, Vector, u64, Vector),
     Dependencies(u64, Vector),
+}
+
+/// The calls of the waiting room before the history.
+#[derive(Clone, Debug)]
+pub enum Visit {
+    Arrive(Event),
+    Waiting,
+    Len,
 }
 
 /// The calls of both logs; the reader gives each log its own words only.
@@ -94,6 +103,8 @@ impl Command {
             Command::Room(_) => vec![],
             Command::Clock(call) => call.vectors_mut(),
             Command::Graph(call) | Command::History(call) => call.vector_mut().into_iter().collect(),
+            Command::WaitingRoom(Visit::Arrive(note)) => vec![&mut note.version],
+            Command::WaitingRoom(_) => vec![],
         }
     }
 
@@ -105,7 +116,7 @@ impl Command {
             Command::Graph(Call::New(r) | Call::From(r, _)) => *r,
             Command::Clock(_) => clocks?,
             Command::Graph(_) => graph?,
-            Command::History(_) => history?,
+            Command::History(_) | Command::WaitingRoom(_) => history?,
         };
         self.vectors_mut().into_iter().for_each(|v| fill(v, replicas));
         Some(self)

@@ -8,7 +8,7 @@ const NOT_IN_THE_ORIGINAL: &str = "g.named";
 /// The numbers for which the original panics.
 const PANICS: [u64; 7] = [2, 9, 10, 11, 12, 13, 14];
 
-const WORDS: [(&str, &[u64]); 60] = [
+const WORDS: [(&str, &[u64]); 63] = [
     ("room", &[]),
     ("c.replicas", &[17]),
     ("c.entry", &[3, 18]),
@@ -69,7 +69,13 @@ const WORDS: [(&str, &[u64]); 60] = [
     ("h.remove", &[18]),
     ("h.retain", &[14, 15, 18]),
     ("h.clear", &[18]),
+    ("r.arrive", &[1, 2, 3, 12, 18, 21, 22]),
+    ("r.waiting", &[16, 18]),
+    ("r.len", &[18]),
 ];
+
+/// The history's numbers for what the waiting room hands over.
+const HANDED_OVER: [u64; 4] = [0, 8, 12, 13];
 
 /// What can occur and did not, and what occurred and cannot: each as a sentence.
 pub fn faults(counts: &Counts) -> Vec<String> {
@@ -106,6 +112,17 @@ pub fn faults(counts: &Counts) -> Vec<String> {
     }
     for number in PANICS.iter().filter(|number| !counts.panics.contains_key(number)) {
         faults.push(format!("the original was never seen to panic for {number}"));
+    }
+    for number in HANDED_OVER
+        .iter()
+        .filter(|number| !counts.handed_over.contains_key(number))
+    {
+        faults.push(format!(
+            "no note was handed over by the waiting room and answered {number}"
+        ));
+    }
+    for number in counts.handed_over.keys().filter(|number| !HANDED_OVER.contains(number)) {
+        faults.push(format!("a note handed over was answered {number}, which it cannot be"));
     }
     faults
 }

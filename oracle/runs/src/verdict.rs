@@ -23,7 +23,7 @@ pub fn verdict(port: &str, driver: &str, model: &str) -> Verdict {
     match port.parse() {
         _ if answered && port == driver => Verdict::Equal,
         _ if answered && not_asked => Verdict::NotAsked,
-        Ok(number @ 1..=20) if driver == format!("skip {number}") => Verdict::Refused(number, false),
+        Ok(number @ 1..=22) if driver == format!("skip {number}") => Verdict::Refused(number, false),
         Ok(number @ (2 | 9..=14)) if driver == "panic" => Verdict::Refused(number, true),
         _ => Verdict::Disagree,
     }

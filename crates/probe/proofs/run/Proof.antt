@@ -4,10 +4,10 @@ use Rattle.probe.proofs.run.Statement.{statement}
 use Rattle.probe.proofs.run.Tie as tie
 
 abbrev Inv-loop : tie.InvT-loop
-Inv-loop input₀ line₀ out₀ index₀ versions₀ notes₀ boundaries₀ slots₀ pasts₀ st₀ r₀ turns₀ input line out index versions notes boundaries slots pasts st r turns = Unit {0}
+Inv-loop input₀ line₀ out₀ index₀ versions₀ notes₀ boundaries₀ slots₀ pasts₀ table₀ st₀ r₀ turns₀ input line out index versions notes boundaries slots pasts table st r turns = Unit {0}
 
 abbrev μ-loop : tie.MeasureT-loop
-μ-loop input₀ line₀ out₀ index₀ versions₀ notes₀ boundaries₀ slots₀ pasts₀ st₀ r₀ turns₀ input line out index versions notes boundaries slots pasts st r turns = turns
+μ-loop input₀ line₀ out₀ index₀ versions₀ notes₀ boundaries₀ slots₀ pasts₀ table₀ st₀ r₀ turns₀ input line out index versions notes boundaries slots pasts table st r turns = turns
 
 new-requires : tie.Need-new-requires Inv-loop μ-loop
 new-requires c κs = tt

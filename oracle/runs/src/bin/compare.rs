@@ -4,6 +4,7 @@
 //! Stops at the first disagreement with status 1. Else prints how often each word and each refusal occurred.
 
 use runs::{
+    answer::report_of,
     counts::Counts,
     lines::split,
     text::read,
@@ -37,7 +38,13 @@ fn main() {
                 }
                 std::process::exit(1);
             }
-            verdict => counts.count(word(line), &verdict),
+            verdict => {
+                let word = word(line);
+                if word == "r.arrive" {
+                    counts.count_handed_over(&report_of(&port).unwrap_or_default());
+                }
+                counts.count(word, &verdict);
+            }
         }
     }
     if let Some(longer) = (1..files.len()).find(|&file| files[file].len() != lines.len()) {

@@ -1,6 +1,6 @@
 //! The line reader.
 
-use super::{Call, Clock, Command, Event, Id, LONGEST, Vector};
+use super::{Call, Clock, Command, Event, Id, LONGEST, Vector, Visit};
 
 /// The lines of a text: a last one may lack its newline.
 pub fn split(text: &[u8]) -> Vec<&[u8]> {
@@ -98,8 +98,10 @@ pub fn parse(line: &[u8]) -> Option<Command> {
         Command::Clock(clock(word, &mut words)?)
     } else if let Some(word) = word.strip_prefix("g.") {
         Command::Graph(graph(word, &mut words)?)
+    } else if let Some(word) = word.strip_prefix("h.") {
+        Command::History(history(word, &mut words)?)
     } else {
-        Command::History(history(word.strip_prefix("h.")?, &mut words)?)
+        Command::WaitingRoom(visit(word.strip_prefix("r.")?, &mut words)?)
     };
     words.0.next().is_none().then_some(command)
 }
@@ -161,6 +163,15 @@ fn history(word: &str, words: &mut Words) -> Option<Call> {
         "newly" => Newly(words.id()?),
         "prune" => Prune(words.vector()?),
         _ => return both(word, words),
+    })
+}
+
+fn visit(word: &str, words: &mut Words) -> Option<Visit> {
+    Some(match word {
+        "arrive" => Visit::Arrive(words.event()?),
+        "waiting" => Visit::Waiting,
+        "len" => Visit::Len,
+        _ => return None,
     })
 }
 

@@ -6,6 +6,7 @@
 pub mod clocks;
 pub mod graph;
 pub mod history;
+pub mod room;
 
 use crate::{
     answer::Answer,
@@ -13,6 +14,7 @@ use crate::{
 };
 use graph::Graph;
 use history::History;
+use room::WaitingRoom;
 
 pub fn bad_count(replicas: u64) -> bool {
     replicas == 0 || replicas > 16
@@ -70,6 +72,7 @@ pub struct Probe {
     pub clocks: Option<u64>,
     pub graph: Option<Graph>,
     pub history: Option<History>,
+    pub waiting_room: WaitingRoom,
 }
 
 impl Default for Probe {
@@ -79,6 +82,7 @@ impl Default for Probe {
             clocks: None,
             graph: None,
             history: None,
+            waiting_room: WaitingRoom::default(),
         }
     }
 }
@@ -109,10 +113,20 @@ impl Probe {
             Command::Clock(Clock::Replicas(r)) => self.clocks = Some(*r),
             Command::Graph(Call::New(r)) => self.graph = Some(Graph::new(*r, None)),
             Command::Graph(Call::From(r, v)) => self.graph = Some(Graph::new(*r, Some(v.clone()))),
-            Command::History(Call::New(r)) => self.history = Some(History::new(*r)),
+            Command::History(Call::New(r)) => {
+                self.history = Some(History::new(*r));
+                self.waiting_room = WaitingRoom::default();
+            }
             Command::Clock(call) => return self.clocks.map(|replicas| clocks::run(replicas, call)),
             Command::Graph(call) => return self.graph.as_mut().map(|graph| graph.run(call)),
-            Command::History(call) => return self.history.as_mut().map(|history| history.run(call)),
+            Command::History(call) => {
+                let history = self.history.as_mut()?;
+                let answer = history.run(call);
+                // A raise is for both.
+                self.waiting_room.raise(history.replicas);
+                return Some(answer);
+            }
+            Command::WaitingRoom(visit) => return Some(self.waiting_room.run(self.history.as_mut()?, visit)),
         }
         Some(Answer::Done)
     }

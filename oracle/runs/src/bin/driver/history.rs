@@ -3,7 +3,10 @@
 //! The original keeps replicas in a hash map. Lists over several replicas are sorted by replica, stably, so that the
 //! order within a replica stays the original's own.
 
-use std::collections::HashMap;
+use std::{
+    collections::HashMap,
+    panic::{self, AssertUnwindSafe},
+};
 
 use moirai_protocol::{
     broadcast::internalizer::Resolver,
@@ -13,8 +16,8 @@ use moirai_protocol::{
     state::unstable_state::{IsUnstableCausal, IsUnstableCore, IsUnstablePrune, event_history::EventHistory},
 };
 use runs::{
-    answer::Answer,
-    lines::{Call, Event, Id, Vector, fill},
+    answer::{Answer, id_text},
+    lines::{Call, Event, Id, Vector, Visit, fill},
     original::*,
 };
 
@@ -27,6 +30,8 @@ pub struct History {
     log: EventHistory<Operation>,
     /// Not in the original: every event accepted since creation or clear, with its version.
     accepted: Vec<(EventId, Version)>,
+    /// Not in the original: the notes in the waiting room.
+    pub waiting: Vec<Event>,
 }
 
 fn by_replica(mut events: Vec<Event>) -> Answer {
@@ -41,6 +46,7 @@ impl History {
             names: resolver(replicas),
             log: EventHistory::default(),
             accepted: Vec::new(),
+            waiting: Vec::new(),
         }
     }
 
@@ -110,6 +116,47 @@ impl History {
             _ => unreachable!("a graph's word"),
         };
         answer.into()
+    }
+
+    /// What is asked of the waiting room.
+    pub fn visit(&self, visit: &Visit) -> Answer {
+        let mut ids: Vec<Id> = self.waiting.iter().map(|note| note.id).collect();
+        ids.sort();
+        match visit {
+            Visit::Arrive(_) => unreachable!("by `arrive`"),
+            Visit::Waiting => Answer::Ids(ids),
+            Visit::Len => Answer::Number(ids.len() as u64),
+        }
+    }
+
+    /// The refusals of an arrival that need no rule of the log: a bad note, or one that waits.
+    pub fn arrival_refusal(&self, note: &Event) -> Option<u64> {
+        let waits = self.waiting.iter().any(|waiting| waiting.id == note.id);
+        bad_event(self.replicas, note).or(waits.then_some(21))
+    }
+
+    /// A note arrives. What the port reports goes to the original, which has to accept and refuse the same.
+    pub fn arrive(&mut self, note: &Event, report: &[(Id, u64)]) -> Reply {
+        self.waiting.push(note.clone());
+        match report.iter().find(|(id, number)| !self.hand_over(id, *number)) {
+            None => Answer::Report(report.to_vec()).into(),
+            Some((id, number)) => Reply::Skip(format!("DENIED {}/{number}", id_text(id))),
+        }
+    }
+
+    /// Whether the note waits, and the original has an answer that goes with the number.
+    fn hand_over(&mut self, id: &Id, number: u64) -> bool {
+        let Some(at) = self.waiting.iter().position(|note| note.id == *id) else {
+            return false;
+        };
+        let append = Call::Append(self.waiting.remove(at));
+        let accepts = |log: &mut Self| panic::catch_unwind(AssertUnwindSafe(|| log.run(&append))).is_ok();
+        match number {
+            0 => accepts(self),
+            8 => accepts(&mut self.clone()),
+            12 | 13 => !accepts(&mut self.clone()),
+            _ => false,
+        }
     }
 
     /// The refusals that need no rule of the log: bad events, counts, vectors and masks.

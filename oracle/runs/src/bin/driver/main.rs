@@ -5,7 +5,8 @@
 //!
 //! A line of output is the original's answer, `panic`, or one of
 //!
-//! - `skip N`: refused by N; N is the driver's own finding for 1, 2, 3, 15, 17, 18 and 20 and the port's for 4 to 8 and 19;
+//! - `skip N`: refused by N; N is the driver's own finding for 1, 2, 3, 15, 17, 18, 20 and 21 and the port's for 4 to 8,
+//!   19 and 22;
 //! - `skip unnamed`, `skip named ..`: the port answers, the original cannot be asked;
 //! - `16`: the original's list is longer than the room;
 //! - a word in capitals: the port's refusal is one that the original denies.
@@ -24,8 +25,9 @@ use graph::Graph;
 use history::History;
 use reply::{Reply, bad_count, bad_vector};
 use runs::{
-    answer::Answer,
-    lines::{self, Call, Clock, Command},
+    answer::{Answer, report_of},
+    lines::{self, Call, Clock, Command, Event, Visit},
+    model::Probe,
 };
 
 struct Driver {
@@ -33,6 +35,8 @@ struct Driver {
     clocks: Option<u64>,
     graph: Option<Graph>,
     history: Option<History>,
+    /// What the documents say of the lines, where no port is at hand.
+    model: Probe,
 }
 
 impl Driver {
@@ -48,6 +52,8 @@ impl Driver {
             Command::Clock(call) => clocks::refusal(self.clocks.unwrap(), call),
             Command::Graph(call) => self.graph.as_ref().unwrap().refusal(call),
             Command::History(call) => self.history.as_ref().unwrap().refusal(call),
+            Command::WaitingRoom(Visit::Arrive(note)) => self.history.as_ref().unwrap().arrival_refusal(note),
+            Command::WaitingRoom(_) => None,
         }
     }
 
@@ -61,6 +67,7 @@ impl Driver {
             Command::Clock(call) => return clocks::run(self.clocks.unwrap(), call).into(),
             Command::Graph(call) => return self.graph.as_mut().unwrap().run(call),
             Command::History(call) => return self.history.as_mut().unwrap().run(call),
+            Command::WaitingRoom(visit) => return self.history.as_ref().unwrap().visit(visit).into(),
         }
         Answer::Done.into()
     }
@@ -115,13 +122,34 @@ impl Driver {
         }
     }
 
+    /// What a waiting room hands over, the original does not know: the model says it.
     fn plain(&mut self, line: &[u8]) -> String {
+        let model = self.model.answer(line).text();
         match self.command(line) {
             Err(text) => text,
+            Ok(Command::WaitingRoom(Visit::Arrive(note))) => self.arrival(&note, &model),
             Ok(command) => {
                 let reply = self.try_run_aside(&command, false);
                 self.text(reply)
             }
+        }
+    }
+
+    /// An arrival: by the port's report, or refused by it.
+    fn arrival(&mut self, note: &Event, port: &str) -> String {
+        let history = self.history.as_mut().unwrap();
+        match (port, report_of(port)) {
+            (_, Some(report)) => {
+                let reply = history.arrive(note, &report);
+                self.text(Some(reply))
+            }
+            ("12", _) => {
+                let append = Command::History(Call::Append(note.clone()));
+                let reply = self.try_run_aside(&append, true);
+                self.text(reply)
+            }
+            ("22", _) if history.waiting.len() == 64 => "skip 22".to_string(),
+            _ => format!("NOT {port}"),
         }
     }
 
@@ -131,6 +159,9 @@ impl Driver {
             Err(text) => return text,
             Ok(command) => command,
         };
+        if let Command::WaitingRoom(Visit::Arrive(note)) = &command {
+            return self.arrival(note, port);
+        }
         let number = port.split(' ').next().unwrap_or("");
         if number == "0" {
             let reply = self.try_run(&command);
@@ -176,6 +207,7 @@ fn main() -> io::Result<()> {
         clocks: None,
         graph: None,
         history: None,
+        model: Probe::default(),
     };
     match &arguments[..] {
         [] => {

@@ -5,6 +5,7 @@ mod clocks;
 mod full;
 mod graph;
 mod history;
+mod room;
 
 use std::io::{self, Write};
 
@@ -14,7 +15,7 @@ use runs::{
 };
 
 /// A good line of every word but the creations and `room`.
-const BEFORE: [&str; 55] = [
+const BEFORE: [&str; 58] = [
     "c.entry 0 1",
     "c.set 0 1 1",
     "c.join 1 | 1",
@@ -70,6 +71,9 @@ const BEFORE: [&str; 55] = [
     "h.remove 0 1 -",
     "h.retain 1",
     "h.clear",
+    "r.arrive 0 1 - 1 1 1 1",
+    "r.waiting",
+    "r.len",
 ];
 
 /// Counts, replicas and sequences on both sides of what is allowed.
@@ -160,6 +164,7 @@ fn main() -> io::Result<()> {
     clocks::edges(&mut lines);
     graph::edges(&mut lines);
     history::edges(&mut lines);
+    room::edges(&mut lines);
     revisions(&mut lines);
     long_lines(&mut lines);
     io::stdout().lock().write_all(lines.join("\n").as_bytes())

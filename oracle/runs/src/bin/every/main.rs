@@ -1,4 +1,4 @@
-//! Prints probe lines for all short logs: every graph|orders|history R N.
+//! Prints probe lines for all short logs: every graph|orders|history|room R N.
 //!
 //! A *log* here is a list of up to N notes among R desks. Each note is written by a desk that has heard a set of the notes before it,
 //! any set that holds the desk's own notes and the past of each of its notes; or it is the next sibling of the note before it.
@@ -11,15 +11,17 @@
 //! - `orders`: each set of notes that is a log, in each order that keeps every desk's own order and brings some note before its past.
 //! - `history`: each set of notes that is a log without siblings: `previous`, `next` and `first` of each id and desk, `newly` of each id, and the
 //!   same again after a prune at every vector up to its tops.
+//! - `room`: each set of notes that is a log, in every order of arrival at the waiting room.
 
 mod graph;
 mod history;
 mod logs;
+mod room;
 
 use std::io::{self, BufWriter, Write};
 
 fn usage() -> ! {
-    eprintln!("usage: every graph|orders|history R N");
+    eprintln!("usage: every graph|orders|history|room R N");
     std::process::exit(2)
 }
 
@@ -42,6 +44,11 @@ fn main() -> io::Result<()> {
         "history" => {
             for set in logs::sets(replicas, notes, false) {
                 history::ask(replicas, &set, &mut lines);
+            }
+        }
+        "room" => {
+            for set in logs::sets(replicas, notes, true) {
+                room::ask(replicas, &set, &mut lines);
             }
         }
         _ => usage(),

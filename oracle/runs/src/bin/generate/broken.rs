@@ -3,7 +3,7 @@
 use runs::{lines::LONGEST, random::Random};
 
 /// At the edges of numbers; some are good lines.
-const EDGES: [&str; 13] = [
+const EDGES: [&str; 14] = [
     "g.retain 256",
     "h.retain 256",
     "g.retain 1 300",
@@ -14,17 +14,20 @@ const EDGES: [&str; 13] = [
     "g.append 0 1 - 1 1 4294967296 1",
     "h.append 0 1 - 1 1 4294967296 1",
     "g.append 0 1 - 1 1 4294967295 1",
+    "r.arrive 0 1 - 1 1 4294967296 1",
     "room 1025",
     "room 01",
     "c.sum 0 0 0 0 0 0 0 0 0 0 0 0 0 0 0 0 0",
 ];
 
 /// No words, or words of the other log.
-const WORDS: [&str; 10] = [
+const WORDS: [&str; 12] = [
     "sheet",
     "g.",
     "h.",
     "c.",
+    "r.",
+    "r.iter",
     "h.roots",
     "h.cuts",
     "g.version 0 1 -",

@@ -1,6 +1,7 @@
 //! History lines: stories of desks whose notes come in turn for each desk, in any order between desks.
 
 mod calls;
+mod room;
 
 use runs::{
     answer::Answer,
@@ -10,6 +11,7 @@ use runs::{
 };
 
 use crate::{Page, Story, desks::Desks, values::*};
+use room::Link;
 
 /// Who writes in a story that fills the history up to the last row and past it.
 #[derive(Clone, Copy)]
@@ -26,8 +28,12 @@ enum Filling {
 pub struct HistoryStory {
     steps: u64,
     filling: Option<Filling>,
+    link: Link,
     desks: Desks,
+    /// Written and not yet taken.
     waiting: Vec<Event>,
+    /// Written for the waiting room.
+    written: Vec<Event>,
     brought: Vec<Event>,
 }
 
@@ -41,9 +47,11 @@ impl HistoryStory {
             Some(_) => *random.pick(&[3, 16, 16, 16]),
             None => replicas(random),
         };
-        self.steps = match self.filling {
-            Some(_) => 700 + random.below(400),
-            None => 20 + random.below(250),
+        self.link = Link::any(random, self.filling.is_some());
+        self.steps = match (self.filling, self.link) {
+            (Some(_), _) => 700 + random.below(400),
+            (None, Link::InTurn) => 20 + random.below(250),
+            (None, Link::Shuffled { .. }) => 100 + random.below(500),
         };
         if random.chance(4) {
             let bad = bad_replicas(random);
@@ -59,6 +67,7 @@ impl HistoryStory {
         let replicas = page.probe.history.as_ref().unwrap().replicas;
         self.desks = Desks::new(replicas, &vec![0; replicas as usize]);
         self.waiting.clear();
+        self.written.clear();
     }
 
     /// Whether the story still has rows to fill.
@@ -82,6 +91,13 @@ impl HistoryStory {
     }
 
     fn bring(&mut self, page: &mut Page) {
+        match self.link {
+            Link::InTurn => self.append(page),
+            Link::Shuffled { batch, among } => self.arrive(page, batch, among),
+        }
+    }
+
+    fn append(&mut self, page: &mut Page) {
         let desk = self.writer(page);
         let random = &mut page.random;
         for _ in 0..random.below(3) {

@@ -101,6 +101,7 @@ fn main() -> io::Result<()> {
         "c.sum 1",
         "g.len",
         "h.len",
+        "r.len",
         "g.append 0 1 - 1 10 1 1",
         "h.clear",
         "c.replicas 0",

@@ -81,7 +81,7 @@ impl HistoryStory {
     }
 
     pub fn ask(&self, page: &mut Page) {
-        let line = match page.random.below(24) {
+        let line = match page.random.below(26) {
             0 => format!("h.get {}", id_words(&self.id(page))),
             1..=2 => format!("h.version {}", id_words(&self.id(page))),
             3..=4 => {
@@ -105,7 +105,8 @@ impl HistoryStory {
                 let word = page.random.pick(&["previous", "next", "first"]);
                 format!("h.{word} {} {r}", id_words(&id))
             }
-            _ => format!("h.newly {}", id_words(&self.id(page))),
+            19..=23 => format!("h.newly {}", id_words(&self.id(page))),
+            _ => page.random.pick(&["r.waiting", "r.len"]).to_string(),
         };
         page.say(line);
     }
