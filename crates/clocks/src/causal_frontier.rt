@@ -10,7 +10,7 @@ use crate::vector::{Comparison, DESKS, Seq, TOP, at_most, compare, seq_by_idx, w
 use numbers::{larger, smaller};
 
 // A component-wise causal cut with no distinguished event origin.
-#[derive(Drop)]
+#[derive(Clone, Copy)]
 pub struct CausalFrontier {
     // R, the number of desks.
     len: usize,
@@ -18,7 +18,7 @@ pub struct CausalFrontier {
 }
 
 // A frontier with the refusal number beside it. A refusal hands back the frontier that came in, or an empty one.
-#[derive(Drop)]
+#[derive(Clone, Copy)]
 pub struct FrontierAnswer {
     pub refusal: usize,
     pub frontier: CausalFrontier,

@@ -44,7 +44,7 @@ pub const MIXED_REVISION: usize = 19;
 pub const BAD_LENGTH: usize = 20;
 
 // What a call that writes a list answers: how many entries it wrote from the buffer's start, or the refusal number.
-#[derive(Drop)]
+#[derive(Clone, Copy)]
 pub enum Listed {
     Count(usize),
     Refused(usize),

@@ -1,5 +1,5 @@
 // The name is that of Moirai's `replica` module.
 
 // A desk's number, 0 to R-1. A position in a log is another type.
-#[derive(Drop)]
+#[derive(Clone, Copy)]
 pub struct ReplicaIdx(pub usize);

@@ -16,7 +16,7 @@ pub const TOP: Seq = 4_294_967_295;
 pub const DESKS: usize = 16;
 
 // How two vectors compare: the first against the second.
-#[derive(Drop)]
+#[derive(Clone, Copy)]
 pub enum Comparison {
     Equal,
     Above,

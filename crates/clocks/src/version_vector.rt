@@ -12,21 +12,21 @@ use crate::refusal::{ACCEPTED, BAD_ORIGIN, BAD_SEQUENCE, BAD_VECTOR, Listed, NO_
 use crate::replica::ReplicaIdx;
 use crate::vector::{Seq, TOP, at_most};
 
-#[derive(Drop)]
+#[derive(Clone, Copy)]
 pub struct Version {
     entries: CausalFrontier,
     origin_idx: ReplicaIdx,
 }
 
 // A version with the refusal number beside it. A refusal hands back the version that came in.
-#[derive(Drop)]
+#[derive(Clone, Copy)]
 pub struct VersionAnswer {
     pub refusal: usize,
     pub version: Version,
 }
 
 // The event that a version is of, or the refusal number.
-#[derive(Drop)]
+#[derive(Clone, Copy)]
 pub enum Identified {
     Id(EventId),
     NoId(usize),

@@ -1,5 +1,7 @@
 // The listing program: reads lines on standard input to its end, and prints the answer of each. What a line says stands in `listing`,
 // what it does to the log and what is answered in `log`; here the bytes come in and go out. The tables of the log are locals of `main`, and are lent all the way down.
+#![tactic(auto)]
+
 ghost use Rattle.io.specs.Counts.{IsPrefixLen};
 
 use graph::{COLUMNS, Pasts, Slots};
@@ -8,14 +10,14 @@ use log::{Answered, LONGEST_ANSWER, Log, answer_line, refuse_line};
 use text::lines::Held;
 
 // What goes from one read to the next: the line so far, and the log.
-#[derive(Drop)]
+#[derive(Clone, Copy)]
 struct Progress {
     held: Held,
     log: Log,
 }
 
 // How many bytes at the input buffer's start are to be answered, and whether they are the last.
-#[derive(Drop)]
+#[derive(Clone, Copy)]
 struct Piece {
     len: usize,
     ended: bool,

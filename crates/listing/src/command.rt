@@ -14,7 +14,7 @@ use text::number::Number;
 pub const LONGEST_LINE: usize = 512;
 
 // A vector stands in the buffer that is lent beside the line; its case says how many entries it has.
-#[derive(Drop)]
+#[derive(Clone, Copy)]
 pub enum Command {
     // R.
     Replicas(usize),
@@ -33,7 +33,7 @@ pub enum Command {
 }
 
 // A line, or bytes that are none.
-#[derive(Drop)]
+#[derive(Clone, Copy)]
 pub enum Read {
     Line(Command),
     NoLine,

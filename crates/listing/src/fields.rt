@@ -15,35 +15,35 @@ use text::number::{Number, read_number};
 const MOST_ENTRIES: usize = 16;
 
 // A disambiguator with the place behind it, or something else.
-#[derive(Drop)]
+#[derive(Clone, Copy)]
 pub enum Tag {
     Given(Disambiguator, usize),
     NoTag,
 }
 
 // An id with the place behind it, or something else.
-#[derive(Drop)]
+#[derive(Clone, Copy)]
 pub enum Named {
     Id(EventId, usize),
     NoId,
 }
 
 // A note's event with the place behind it, or something else.
-#[derive(Drop)]
+#[derive(Clone, Copy)]
 pub enum Noted {
     Note(Event, usize),
     NoNote,
 }
 
 // How many entries a vector has, or none that the rules allow.
-#[derive(Drop)]
+#[derive(Clone, Copy)]
 pub enum Vector {
     Entries(usize),
     NoVector,
 }
 
 // How many entries stand in the buffer, and the place behind them in the line.
-#[derive(Drop)]
+#[derive(Clone, Copy)]
 pub struct Run {
     pub count: usize,
     pub next: usize,

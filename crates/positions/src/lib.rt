@@ -1,5 +1,7 @@
 // Sets of positions 0..255, as four words of 64 bits: they stand for the Rust's FxHashSets of NodeIndex, and NodeIndex for petgraph's.
 // No position from 256 on is ever a member, and every function answers for such positions too.
+#![tactic(auto)]
+
 ghost use Rattle.std.specs.Prelude.{◌≡◌, false, not, ◌&&◌, ◌||◌, ℕ, ◌+◌, ltb, eqb};
 ghost use Rattle.laws.specs.Counting.{count_below};
 ghost use Rattle.positions.specs.Members.{has, FirstMissing, Subset, IsHighest};
@@ -10,24 +12,24 @@ mod plan;
 mod word;
 
 // A position in a graph.
-#[derive(Drop)]
+#[derive(Clone, Copy)]
 pub struct NodeIndex(pub usize);
 
 // Bit `k` of word `w` stands for the position 64 * w + k.
-#[derive(Drop)]
+#[derive(Clone, Copy)]
 pub struct Positions {
     words: [u64; 4],
 }
 
 // What a search for the greatest member answers.
-#[derive(Drop)]
+#[derive(Clone, Copy)]
 pub enum Highest {
     At(NodeIndex),
     Nothing,
 }
 
 // A keep set made ready to compact many sets: four words of marks for each of eight rounds.
-#[derive(Drop)]
+#[derive(Clone, Copy)]
 pub struct Compaction {
     keep: Positions,
     marks: [u64; 32],

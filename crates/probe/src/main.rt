@@ -1,5 +1,7 @@
 // Reads test lines from standard input and prints an answer line for each: every call of the libraries, one word each.
 // It decides nothing by itself. It takes a line apart, makes the call, and prints the refusal number or 0 and what came back.
+#![tactic(auto)]
+
 mod state;
 
 use clocks::vector::Seq;
@@ -19,7 +21,7 @@ type Line = [u8; 4096];
 const LONGEST_ANSWER: usize = 40_960;
 
 // How far the input is read: the place in the piece that was read, and its end; the line so far; and whether that is a whole line, or the last.
-#[derive(Drop)]
+#[derive(Clone, Copy)]
 struct Reading {
     at: usize,
     end: usize,

@@ -16,7 +16,7 @@ use probe_text::words::{NO_ROW, row};
 use room::waiting_room::WaitingRoom;
 use text::bytes::byte_at;
 
-#[derive(Drop)]
+#[derive(Clone, Copy)]
 pub struct State {
     // How much of the output buffer is filled.
     pub at: usize,

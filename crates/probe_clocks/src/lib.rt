@@ -1,4 +1,6 @@
 // The clock words of the line driver: each makes one call of `clocks`.
+#![tactic(auto)]
+
 mod asks;
 mod dependencies;
 mod frontiers;
@@ -11,7 +13,7 @@ use probe_text::answers;
 use probe_text::words::{NO_ROW, row};
 
 // The place behind the answer, and R; 0 before a good c.replicas.
-#[derive(Drop)]
+#[derive(Clone, Copy)]
 pub struct Clocked {
     pub at: usize,
     pub replicas: usize,

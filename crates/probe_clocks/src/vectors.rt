@@ -5,7 +5,7 @@ use probe_text::values::vector;
 use probe_text::words::{behind_numbers, next};
 
 // Two of them, or the refusal number.
-#[derive(Drop)]
+#[derive(Clone, Copy)]
 pub struct Pair {
     pub refusal: usize,
     pub left: CausalFrontier,

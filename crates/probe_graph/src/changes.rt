@@ -23,7 +23,7 @@ const RETAIN: usize = 5;
 const RAISE: usize = 6;
 
 // The answer, whether it is a refusal, whether that handed back another graph, and the log.
-#[derive(Drop)]
+#[derive(Clone, Copy)]
 pub struct Change {
     pub answer: Answer,
     pub refused: bool,

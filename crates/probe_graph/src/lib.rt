@@ -1,4 +1,6 @@
 // The graph words of the line driver: each makes one call of `graph`. The tables are lent to each word, and changed in place.
+#![tactic(auto)]
+
 mod advances;
 mod asks;
 mod changes;
@@ -12,14 +14,14 @@ use probe_text::lent::{digest, words_digest};
 use probe_text::words::NO_ROW;
 
 // The graph, and whether a good g.new or g.from came.
-#[derive(Drop)]
+#[derive(Clone, Copy)]
 pub struct Log {
     made: bool,
     graph: EventGraph,
 }
 
 // The place behind the answer, and the log.
-#[derive(Drop)]
+#[derive(Clone, Copy)]
 pub struct Logged {
     pub at: usize,
     pub log: Log,

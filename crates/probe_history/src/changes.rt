@@ -23,7 +23,7 @@ const RETAIN: usize = 4;
 const RAISE: usize = 5;
 
 // The answer, whether it is a refusal, whether that handed back another number of events, and the history.
-#[derive(Drop)]
+#[derive(Clone, Copy)]
 pub struct Change {
     pub answer: Answer,
     pub refused: bool,

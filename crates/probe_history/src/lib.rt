@@ -1,4 +1,6 @@
 // The history words of the line driver: each makes one call of `history`. The tables are lent to each word, and changed in place.
+#![tactic(auto)]
+
 mod asks;
 mod changes;
 mod lists;
@@ -13,14 +15,14 @@ use probe_text::lent::{digest, rows_digest, words_digest};
 use probe_text::words::NO_ROW;
 
 // The history, and whether a good h.new came.
-#[derive(Drop)]
+#[derive(Clone, Copy)]
 pub struct Traces {
     pub made: bool,
     pub history: EventHistory,
 }
 
 // The place behind the answer, the history, and whether it is a new one.
-#[derive(Drop)]
+#[derive(Clone, Copy)]
 pub struct Traced {
     pub at: usize,
     pub traces: Traces,

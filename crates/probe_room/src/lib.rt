@@ -1,4 +1,6 @@
 // The words of the waiting room: each makes one call of `room`. The tables are lent to each word, and changed in place.
+#![tactic(auto)]
+
 mod arrivals;
 mod lists;
 
@@ -18,7 +20,7 @@ const WAITING: usize = 1;
 const LEN: usize = 2;
 
 // The place behind the answer, the history and the room.
-#[derive(Drop)]
+#[derive(Clone, Copy)]
 pub struct Visited {
     pub at: usize,
     pub traces: Traces,

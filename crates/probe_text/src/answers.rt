@@ -9,7 +9,7 @@ use text::bytes::put;
 use text::number::write_number;
 
 // What a line is answered with: a refusal number or 0 alone, or 0 and one more thing.
-#[derive(Drop)]
+#[derive(Clone, Copy)]
 pub enum Answer {
     Bare(usize),
     Number(usize),

@@ -15,7 +15,7 @@ const NO_TOKEN: u8 = 0;
 pub const MOST_TOKENS: usize = 2048;
 
 // A kind, its value, and the place behind it.
-#[derive(Drop)]
+#[derive(Clone, Copy)]
 struct Token {
     kind: u8,
     value: usize,

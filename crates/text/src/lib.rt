@@ -1,4 +1,6 @@
 // Text: bytes in lent buffers, numbers read and written, and lines that arrive in pieces. Document 01, The listing program, has the line rules.
+#![tactic(auto)]
+
 pub mod bytes;
 pub mod lines;
 pub mod number;

@@ -6,14 +6,14 @@ use crate::bytes::{find_byte, put};
 use numbers::{less, smaller};
 
 // What the line buffer holds: so many bytes of the current line, or the first of a line that is longer than the buffer.
-#[derive(Drop)]
+#[derive(Clone, Copy)]
 pub struct Held {
     pub len: usize,
     pub overlong: bool,
 }
 
 // What a piece gave: the state, the place to go on at, and whether the line came to its newline.
-#[derive(Drop)]
+#[derive(Clone, Copy)]
 pub struct Taken {
     pub held: Held,
     pub next: usize,

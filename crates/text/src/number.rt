@@ -8,7 +8,7 @@ ghost use Rattle.text.specs.Bytes.{placed, placed_end};
 use crate::bytes::byte_at;
 
 // What stands at a place: a number with the place behind it, or none that the rules allow.
-#[derive(Drop)]
+#[derive(Clone, Copy)]
 pub enum Number {
     Value(u64, usize),
     Bad,

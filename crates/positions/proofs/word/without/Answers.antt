@@ -3,11 +3,7 @@ use mathlib.Core.Path.{ap, ◌∙◌}
 use mathlib.Core.Bool.{Bool, ◌&&◌}
 use Rattle.positions.specs.Bits.{bit}
 use Rattle.positions.proofs.Bits.{bit-not64, bit-and}
-use Rattle.positions.proofs.word.without.Statement.{statement}
-use Rattle.positions.proofs.word.without.Tie as tie
+use Rattle.positions.proofs.word.without.Goals as goal
 
-returns : tie.Need-returns
+pub returns : goal.returns
 returns c = λ j p. let a = c.args in bit-and j a.w _ ∙ ap (λ (x : Bool). bit a.w j && x) (bit-not64 a.v j c.ranges.v.fits p)
-
-pub without-spec : {M : Type 1} → statement M
-without-spec = tie.close (tie.spec returns)
