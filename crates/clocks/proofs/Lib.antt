@@ -5,4 +5,3 @@ pub mod Vectors
 pub mod Frontiers
 pub mod Same
 pub mod Versions
-pub mod Lent

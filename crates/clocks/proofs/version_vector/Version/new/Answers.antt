@@ -1,0 +1,5 @@
+use Rattle.std.proofs.Common.{rules}
+use Rattle.clocks.proofs.version_vector.Version.new.Goals as goal
+
+pub returns : goal.returns
+returns c = rw (c.answer.ensures, c.new-a.ensures)

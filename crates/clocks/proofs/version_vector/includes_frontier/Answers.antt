@@ -1,0 +1,6 @@
+-- `at_most` of the frontier's entries and the version.
+use Rattle.std.proofs.Common.{rules}
+use Rattle.clocks.proofs.version_vector.includes_frontier.Goals as goal
+
+pub returns : goal.returns
+returns c = rw (c.at_most.ensures, c.entries-entries.ensures)

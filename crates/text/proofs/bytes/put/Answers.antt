@@ -1,0 +1,33 @@
+use Rattle.text.proofs.Placing.{placed-in, placed-out}
+use Prim.Native.Nat.{◌≤◌, ◌-◌}
+use mathlib.Core.Path.{◌≡◌, refl, ◌∙◌}
+use lib.ListN.{length, length-set}
+use lib.Seq.{paste, paste-zero, paste-suc, take-length}
+use native.Mathlib.Numerals.{add-one}
+use native.Mathlib.Omega.{arith}
+use borrow.Author.Rules.{rules}
+use Rattle.text.proofs.bytes.put.Goals as goal
+
+pub returns-then-out-at : goal.returns-then-out-at
+returns-then-out-at c = let a = c.args in placed-out a.out.now a.at a.bytes.now (omega arith)
+
+pub returns-then-out-at-2 : goal.returns-then-out-at-2
+returns-then-out-at-2 c = let a = c.args in placed-out a.out.now a.at a.bytes.now (omega arith)
+
+pub loop-j-init : goal.loop-j-init
+loop-j-init c = let a = c.args in (omega arith, refl, paste-zero a.out.now a.at a.bytes.now)
+
+pub loop-j-preserved : goal.loop-j-preserved
+loop-j-preserved c = let a = c.args in
+    let l = c.loop-j in (
+      omega arith,
+      simp length-set l.invariant.1,
+      rw (add-one, l.invariant.2) (paste-suc a.out.now a.at a.bytes.now l.j 0 (omega arith) (omega arith)),
+    )
+
+pub returns : goal.returns
+returns c = let a = c.args in
+    let l = c.loop-j in
+    let e : l.j ≡ length a.bytes.now = omega arith in
+    let p = placed-in a.out.now a.at a.bytes.now (omega arith) in
+    (p.0, l.invariant.2 ∙ rw (e, take-length) p.1)
