@@ -9,10 +9,10 @@ use borrow.Author.Rules.{rules}
 use Rattle.text.proofs.bytes.put.Goals as goal
 
 pub returns-then-out-at : goal.returns-then-out-at
-returns-then-out-at c = let a = c.args in placed-out a.out.now a.at a.bytes.now (omega arith)
+returns-then-out-at c = let a = c.args in let p = placed-out a.out.now a.at a.bytes.now (omega arith) in record { value = p.0; out_after = p.1 }
 
 pub returns-then-out-at-2 : goal.returns-then-out-at-2
-returns-then-out-at-2 c = let a = c.args in placed-out a.out.now a.at a.bytes.now (omega arith)
+returns-then-out-at-2 c = let a = c.args in let p = placed-out a.out.now a.at a.bytes.now (omega arith) in record { value = p.0; out_after = p.1 }
 
 pub loop-j-init : goal.loop-j-init
 loop-j-init c = let a = c.args in (omega arith, refl, paste-zero a.out.now a.at a.bytes.now)
@@ -30,4 +30,4 @@ returns c = let a = c.args in
     let l = c.loop-j in
     let e : l.j ≡ length a.bytes.now = omega arith in
     let p = placed-in a.out.now a.at a.bytes.now (omega arith) in
-    (p.0, l.invariant.2 ∙ rw (e, take-length) p.1)
+    record { value = p.0; out_after = l.invariant.2 ∙ rw (e, take-length) p.1 }

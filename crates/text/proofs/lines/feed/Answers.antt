@@ -26,13 +26,13 @@ returns-then-end-piece c = let a = c.args in
     let end = c.find_byte-end.result in
     let m = c.smaller-count.result in
     let k : a.at + m - a.at ≡ m = omega arith in
-    feed-ended a.line.now a.held a.piece.now a.at end m c.settled-after.result c.put.last.0 c.if-piece-at.false c.find_byte-end.ensures
-    c.settled-after.ensures (c.smaller-count.ensures ∙ rw c.less.ensures) (c.put.ensures.1 ∙ rw k) c.if-end-piece.true
+    feed-ended a.line.now a.held a.piece.now a.at end m c.settled-after.result c.put.new.out c.if-piece-at.false c.find_byte-end.ensures
+    c.settled-after.ensures (c.smaller-count.ensures ∙ rw c.less.ensures) (c.put.ensures.out_after ∙ rw k) c.if-end-piece.true
 
 pub returns : goal.returns
 returns c = let a = c.args in
     let end = c.find_byte-end.result in
     let m = c.smaller-count.result in
     let k : a.at + m - a.at ≡ m = omega arith in
-    feed-open a.line.now a.held a.piece.now a.at end m c.settled-after.result c.put.last.0 c.if-piece-at.false c.find_byte-end.ensures
-    c.settled-after.ensures (c.smaller-count.ensures ∙ rw c.less.ensures) (c.put.ensures.1 ∙ rw k) c.if-end-piece.false
+    feed-open a.line.now a.held a.piece.now a.at end m c.settled-after.result c.put.new.out c.if-piece-at.false c.find_byte-end.ensures
+    c.settled-after.ensures (c.smaller-count.ensures ∙ rw c.less.ensures) (c.put.ensures.out_after ∙ rw k) c.if-end-piece.false
