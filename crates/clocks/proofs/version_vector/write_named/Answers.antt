@@ -1,7 +1,7 @@
-use Rattle.std.proofs.Common.{◌≡◌, ◌-◌, ◌≤◌, length, refl, ◌∙◌, ⊎_elim, add-one, arith, length-set, rules, le-ltb, lt-ltb}
+use Rattle.std.proofs.Common.{◌≡◌, refl, ◌∙◌, add-one, arith, length-set, le-ltb, lt-ltb}
 use Rattle.laws.proofs.Counting.{count_room, count_turn, count-pass}
 use Rattle.laws.proofs.Lists.{write-turn, pass-turn}
-use Rattle.laws.specs.Lists.{list_below, written}
+use Rattle.laws.specs.Lists.{list_below}
 use Rattle.laws.specs.Counting.{count_below}
 use Rattle.clocks.specs.Versions.{named}
 use Rattle.clocks.specs.Vectors.{entry}
@@ -19,22 +19,25 @@ bounds-out-n c = let l = c.loop-i in
 pub loop-i-preserved : goal.loop-i-preserved
 loop-i-preserved c = let a = c.args in
     let l = c.loop-i in
-    rw (add-one l.i) (elim c.if-entries-i-gt0.branch [ then-entries-i-gt0 w ↦ let p = lt-ltb 0 (entry a.entries l.i) w.if-entries-i-gt0.true in
-    let r = count_room (named a.entries) l.i l.n 16 l.invariant.2 p c.loop-i-test.true in (
-      omega arith,
-      omega (arith, w.n-is),
-      w.n-is ∙ count_turn (named a.entries) l.i l.n l.invariant.2 p,
-      l.invariant.3,
-      rw w.out-is (simp length-set l.invariant.4),
-      rw w.out-is (write-turn (named a.entries) (entry a.values) l.i l.n _ l.out a.out.now l.invariant.2 (omega (arith, r, l.invariant.3)) refl p l.invariant.5),
-    ) | else-entries-i-gt0 w ↦ let p = le-ltb 0 (entry a.entries l.i) w.if-entries-i-gt0.false in (
-      omega arith,
-      omega (arith, w.n-is),
-      w.n-is ∙ count-pass (named a.entries) l.i l.n l.invariant.2 p,
-      l.invariant.3,
-      rw w.out-is l.invariant.4,
-      rw w.out-is (pass-turn (named a.entries) (entry a.values) l.i l.out a.out.now p l.invariant.5),
-    ) ])
+    rw (add-one l.i) (elim c.if-entries-i-gt0.branch [
+      | then-entries-i-gt0 w ↦ let p = lt-ltb 0 (entry a.entries l.i) w.if-entries-i-gt0.true in
+          let r = count_room (named a.entries) l.i l.n 16 l.invariant.2 p c.loop-i-test.true in (
+            omega arith,
+            omega (arith, w.n-is),
+            w.n-is ∙ count_turn (named a.entries) l.i l.n l.invariant.2 p,
+            l.invariant.3,
+            rw w.out-is (simp length-set l.invariant.4),
+            rw w.out-is (write-turn (named a.entries) (entry a.values) l.i l.n _ l.out a.out.now l.invariant.2 (omega (arith, r, l.invariant.3)) refl p l.invariant.5),
+          )
+      | else-entries-i-gt0 w ↦ let p = le-ltb 0 (entry a.entries l.i) w.if-entries-i-gt0.false in (
+        omega arith,
+        omega (arith, w.n-is),
+        w.n-is ∙ count-pass (named a.entries) l.i l.n l.invariant.2 p,
+        l.invariant.3,
+        rw w.out-is l.invariant.4,
+        rw w.out-is (pass-turn (named a.entries) (entry a.values) l.i l.out a.out.now p l.invariant.5),
+      )
+    ])
 
 pub shape_of-out : goal.shape_of-out
 shape_of-out c = c.loop-i.invariant.4
