@@ -1,5 +1,4 @@
 -- No count first, then below the present R.
-use Rattle.std.proofs.Common.{rules}
 use Rattle.clocks.proofs.causal_frontier.is_bad_raise.Goals as goal
 
 pub returns-then-is_bad_count : goal.returns-then-is_bad_count

@@ -1,4 +1,4 @@
-use Rattle.std.proofs.Common.{◌≡◌, ℕ, ◌-◌, ◌<◌, ◌≤◌, max, length, get_or, ◌∙◌, arith, length-set, rules}
+use Rattle.std.proofs.Common.{◌≡◌, max, ◌∙◌, arith, length-set, rules}
 use Rattle.laws.proofs.Lists.{fill-turn, tabulated}
 use Rattle.clocks.specs.Frontiers.{join_entries}
 use Rattle.clocks.specs.Vectors.{entry}

@@ -1,7 +1,5 @@
 -- Each entry passed so far is the greater of both.
-use Rattle.std.proofs.Common.{◌≡◌, ℕ, ◌-◌, ◌<◌, ◌≤◌, max, length, get_or, ◌∙◌, arith, length-set, rules}
-use Rattle.laws.proofs.Lists.{fill-turn, tabulated}
-use Rattle.clocks.specs.Frontiers.{join_entries}
+use Rattle.std.proofs.Common.{◌≡◌, ℕ, ◌-◌, ◌<◌, ◌≤◌, max, length, get_or}
 use Rattle.clocks.specs.Vectors.{entry}
 use Rattle.clocks.proofs.causal_frontier.joined_entries.Given as goal
 

@@ -1,4 +1,4 @@
-use Rattle.std.proofs.Common.{◌≡◌, ℕ, ◌-◌, ◌<◌, ◌≤◌, min, length, get_or, ◌∙◌, arith, length-set, rules}
+use Rattle.std.proofs.Common.{◌≡◌, min, ◌∙◌, arith, length-set, rules}
 use Rattle.laws.proofs.Lists.{fill-turn, tabulated}
 use Rattle.clocks.specs.Frontiers.{meet_entries}
 use Rattle.clocks.specs.Vectors.{entry}

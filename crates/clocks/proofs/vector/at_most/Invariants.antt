@@ -1,8 +1,6 @@
 -- Each entry passed so far is at most the other's; one that is not makes `at_most` false.
-use Rattle.std.proofs.Common.{◌≡◌, ℕ, ◌-◌, ◌<◌, ◌≤◌, true, leb, length, sym, arith, rules, below_more, le-leb}
-use borrow.Author.Tests.{lt-leb}
-use Rattle.laws.proofs.Counting.{all-intro, all-fails}
-use Rattle.clocks.specs.Vectors.{at_most, entry}
+use Rattle.std.proofs.Common.{◌≡◌, ℕ, ◌-◌, ◌<◌, ◌≤◌, true, leb, length}
+use Rattle.clocks.specs.Vectors.{entry}
 use Rattle.clocks.proofs.vector.at_most.Given as goal
 
 abbrev pub invariant-loop-i : goal.invariant-loop-i

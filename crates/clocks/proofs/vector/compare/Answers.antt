@@ -1,5 +1,5 @@
 -- Two tests, four answers.
-use Rattle.std.proofs.Common.{sym, ◌∙◌, rules}
+use Rattle.std.proofs.Common.{sym, ◌∙◌}
 use Rattle.clocks.proofs.Vectors.{compared-equal, compared-below, compared-above, compared-beside}
 use Rattle.clocks.proofs.vector.compare.Goals as goal
 

@@ -1,6 +1,6 @@
-use Rattle.std.proofs.Common.{◌≡◌, ◌-◌, ◌%◌, ◌^◌, ◌≤◌, length, refl, add-one, arith, rules}
+use Rattle.std.proofs.Common.{◌≡◌, length, refl, add-one, arith, rules}
 use Rattle.laws.specs.Counting.{sum_below}
-use Rattle.clocks.specs.Vectors.{entry, total}
+use Rattle.clocks.specs.Vectors.{total}
 use Rattle.clocks.proofs.vector.sum.Goals as goal
 
 pub loop-i-init : goal.loop-i-init

@@ -1,7 +1,7 @@
 -- The sum so far, in 64 bits, is the sum of the entries passed.
-use Rattle.std.proofs.Common.{◌≡◌, ◌-◌, ◌%◌, ◌^◌, ◌≤◌, length, refl, add-one, arith, rules}
+use Rattle.std.proofs.Common.{◌≡◌, ◌-◌, ◌%◌, ◌^◌, ◌≤◌, length}
 use Rattle.laws.specs.Counting.{sum_below}
-use Rattle.clocks.specs.Vectors.{entry, total}
+use Rattle.clocks.specs.Vectors.{entry}
 use Rattle.clocks.proofs.vector.sum.Given as goal
 
 abbrev pub invariant-loop-i : goal.invariant-loop-i

@@ -1,4 +1,4 @@
-use Rattle.std.proofs.Common.{◌≡◌, ℕ, ◌-◌, ◌<◌, ◌≤◌, true, leb, length, sym, arith, rules, below_more, le-leb}
+use Rattle.std.proofs.Common.{◌≡◌, leb, length, sym, arith, rules, below_more, le-leb}
 use mathlib.Core.Bool.{and-false}
 use borrow.Author.Tests.{lt-leb}
 use Rattle.laws.proofs.Counting.{all-intro, all-fails}

@@ -1,9 +1,6 @@
 -- Each entry passed so far is within the top; one that is not makes `well_formed` false.
-use Rattle.std.proofs.Common.{◌≡◌, ℕ, ◌-◌, ◌<◌, ◌≤◌, true, leb, length, sym, arith, rules, below_more, le-leb}
-use mathlib.Core.Bool.{and-false}
-use borrow.Author.Tests.{lt-leb}
-use Rattle.laws.proofs.Counting.{all-intro, all-fails}
-use Rattle.clocks.specs.Vectors.{well_formed, entry, top}
+use Rattle.std.proofs.Common.{◌≡◌, ℕ, ◌-◌, ◌<◌, ◌≤◌, true, leb, length}
+use Rattle.clocks.specs.Vectors.{entry, top}
 use Rattle.clocks.proofs.vector.well_formed.Given as goal
 
 abbrev pub invariant-loop-i : goal.invariant-loop-i

@@ -1,5 +1,4 @@
 -- Well formed first, then the own entry against the sequence.
-use Rattle.std.proofs.Common.{rules}
 use Rattle.clocks.specs.Vectors.{well_formed_for}
 use Rattle.clocks.proofs.vector.well_formed_for.Goals as goal
 

@@ -1,5 +1,4 @@
 -- `at_most` of the frontier's entries and the version.
-use Rattle.std.proofs.Common.{rules}
 use Rattle.clocks.proofs.version_vector.includes_frontier.Goals as goal
 
 pub returns : goal.returns

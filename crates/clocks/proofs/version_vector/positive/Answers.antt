@@ -1,4 +1,4 @@
-use Rattle.std.proofs.Common.{◌≡◌, ◌-◌, ◌≤◌, refl, ◌∙◌, ⊎_elim, add-one, arith, rules, le-ltb, lt-ltb}
+use Rattle.std.proofs.Common.{◌≡◌, refl, ◌∙◌, add-one, arith, le-ltb, lt-ltb}
 use Rattle.laws.proofs.Counting.{count_turn, count-pass}
 use Rattle.laws.specs.Counting.{count_below}
 use Rattle.clocks.specs.Versions.{named}

@@ -1,6 +1,5 @@
 -- The count so far is that of the entries passed.
-use Rattle.std.proofs.Common.{◌≡◌, ◌-◌, ◌≤◌, refl, ◌∙◌, ⊎_elim, add-one, arith, rules, le-ltb, lt-ltb}
-use Rattle.laws.proofs.Counting.{count_turn, count-pass}
+use Rattle.std.proofs.Common.{◌≡◌, ◌-◌, ◌≤◌}
 use Rattle.laws.specs.Counting.{count_below}
 use Rattle.clocks.specs.Versions.{named}
 use Rattle.clocks.proofs.version_vector.positive.Given as goal

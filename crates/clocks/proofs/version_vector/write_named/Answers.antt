@@ -1,7 +1,7 @@
-use Rattle.std.proofs.Common.{◌≡◌, ◌-◌, ◌≤◌, length, refl, ◌∙◌, ⊎_elim, add-one, arith, length-set, rules, le-ltb, lt-ltb}
+use Rattle.std.proofs.Common.{◌≡◌, refl, ◌∙◌, add-one, arith, length-set, le-ltb, lt-ltb}
 use Rattle.laws.proofs.Counting.{count_room, count_turn, count-pass}
 use Rattle.laws.proofs.Lists.{write-turn, pass-turn}
-use Rattle.laws.specs.Lists.{list_below, written}
+use Rattle.laws.specs.Lists.{list_below}
 use Rattle.laws.specs.Counting.{count_below}
 use Rattle.clocks.specs.Versions.{named}
 use Rattle.clocks.specs.Vectors.{entry}

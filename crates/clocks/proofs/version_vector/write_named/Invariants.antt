@@ -1,7 +1,5 @@
 -- The buffer holds the list of the entries passed, and then what it held.
-use Rattle.std.proofs.Common.{◌≡◌, ◌-◌, ◌≤◌, length, refl, ◌∙◌, ⊎_elim, add-one, arith, length-set, rules, le-ltb, lt-ltb}
-use Rattle.laws.proofs.Counting.{count_room, count_turn, count-pass}
-use Rattle.laws.proofs.Lists.{write-turn, pass-turn}
+use Rattle.std.proofs.Common.{◌≡◌, ◌-◌, ◌≤◌, length}
 use Rattle.laws.specs.Lists.{list_below, written}
 use Rattle.laws.specs.Counting.{count_below}
 use Rattle.clocks.specs.Versions.{named}

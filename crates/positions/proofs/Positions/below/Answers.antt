@@ -3,7 +3,6 @@ use mathlib.Core.Path.{sym, ap, ap₂, ◌∙◌}
 use mathlib.Core.Bool.{Bool, ◌&&◌}
 use Prim.Native.Nat.{ℕ}
 use lib.Dec.{ltb, lit<}
-use borrow.Author.Rules.{rules}
 use Rattle.positions.specs.Members.{has}
 use Rattle.positions.proofs.Words.{four, has-at, has_first, has-out, less-below}
 use Rattle.positions.proofs.Positions.below.Goals as goal

@@ -1,7 +1,6 @@
 -- The bit k % 64 of the word k / 64 is tested; no position from 256 on is a member.
 use mathlib.Core.Path.{sym}
 use borrow.Author.Tests.{lt-ltb}
-use borrow.Author.Rules.{rules}
 use Rattle.positions.specs.Members.{has}
 use Rattle.positions.proofs.Bits.{test_bit}
 use Rattle.positions.proofs.Words.{has-out}

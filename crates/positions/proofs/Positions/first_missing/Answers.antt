@@ -5,7 +5,6 @@ use Prim.Native.Nat.{ℕ, ◌<◌}
 use native.Mathlib.Omega.{arith}
 use native.Mathlib.Nat.{zero-add}
 use lib.Dec.{lit<}
-use borrow.Author.Rules.{rules}
 use Rattle.positions.specs.Members.{has}
 use Rattle.positions.proofs.Words.{full-word, missing_at, missing-last}
 use Rattle.positions.proofs.Positions.first_missing.Goals as goal

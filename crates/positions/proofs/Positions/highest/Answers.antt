@@ -4,7 +4,6 @@ use mathlib.Core.Bool.{false}
 use Prim.Native.Nat.{ℕ, ◌≤◌}
 use native.Mathlib.Omega.{arith}
 use lib.Dec.{lit<}
-use borrow.Author.Rules.{rules}
 use Rattle.positions.specs.Members.{has}
 use Rattle.positions.proofs.Words.{has-out, empty-word, highest-at}
 use Rattle.positions.proofs.Positions.highest.Goals as goal

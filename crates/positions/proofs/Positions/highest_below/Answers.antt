@@ -1,5 +1,4 @@
 -- The greatest of the members below n.
-use borrow.Author.Rules.{rules}
 use Rattle.positions.proofs.Members.{highest-law}
 use Rattle.positions.proofs.Positions.highest_below.Goals as goal
 

@@ -1,7 +1,6 @@
 -- Word by word, and bit by bit, an `and`.
 use mathlib.Core.Path.{refl}
 use mathlib.Core.Bool.{◌&&◌}
-use borrow.Author.Rules.{rules}
 use Rattle.positions.proofs.Bits.{bit-and}
 use Rattle.positions.proofs.Words.{four₂}
 use Rattle.positions.proofs.Positions.intersection.Goals as goal

@@ -1,6 +1,5 @@
 -- The members are counted word by word.
 use native.Mathlib.Omega.{arith}
-use borrow.Author.Rules.{rules}
 use Rattle.positions.proofs.Words.{count-four}
 use Rattle.positions.proofs.Positions.size.Goals as goal
 

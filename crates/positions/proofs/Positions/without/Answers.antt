@@ -1,7 +1,6 @@
 -- Word by word, the bits that the other lacks.
 use mathlib.Core.Path.{refl}
 use mathlib.Core.Bool.{Bool, ◌&&◌, not}
-use borrow.Author.Rules.{rules}
 use Rattle.positions.proofs.Words.{four₂}
 use Rattle.positions.proofs.Positions.without.Goals as goal
 

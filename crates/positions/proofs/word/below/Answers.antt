@@ -4,7 +4,6 @@ use mathlib.Core.Bool.{Bool, ◌&&◌, and-true}
 use native.Mathlib.Omega.{arith}
 use lib.Pow.{pow_pos}
 use borrow.Author.Tests.{lt-ltb}
-use borrow.Author.Rules.{rules}
 use Rattle.positions.specs.Bits.{bit}
 use Rattle.positions.proofs.Bits.{shl_one, bit-and, bit_mask}
 use Rattle.positions.proofs.word.below.Goals as goal

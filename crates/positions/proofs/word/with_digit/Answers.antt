@@ -1,5 +1,4 @@
 -- The digit shifted up is the bit k or nothing.
-use borrow.Author.Rules.{rules}
 use Rattle.positions.proofs.Bits.{digit-law}
 use Rattle.positions.proofs.word.with_digit.Goals as goal
 

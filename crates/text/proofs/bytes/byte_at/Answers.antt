@@ -1,7 +1,6 @@
 -- A list is 0 past its end.
 use lib.ListN.{get_or-eq_default}
 use mathlib.Core.Path.{sym}
-use borrow.Author.Rules.{rules}
 use Rattle.text.proofs.bytes.byte_at.Goals as goal
 
 pub returns-else-at-s : goal.returns-else-at-s

@@ -1,10 +1,6 @@
-use mathlib.Core.Path.{◌≡◌, refl}
-use Prim.Native.Nat.{◌+◌, ◌-◌, ◌≤◌}
+use mathlib.Core.Path.{refl}
 use native.Mathlib.Numerals.{add-one}
 use native.Mathlib.Omega.{arith}
-use lib.ListN.{length, drop}
-use borrow.Author.Rules.{rules}
-use Rattle.text.specs.Bytes.{bytes_before}
 use Rattle.text.proofs.Before.{before_here, before-later, before-none}
 use Rattle.text.proofs.bytes.find_byte.Goals as goal
 

@@ -1,12 +1,8 @@
 -- The place passed and the bytes that are left before such a byte make the same sum.
-use mathlib.Core.Path.{◌≡◌, refl}
+use mathlib.Core.Path.{◌≡◌}
 use Prim.Native.Nat.{◌+◌, ◌-◌, ◌≤◌}
-use native.Mathlib.Numerals.{add-one}
-use native.Mathlib.Omega.{arith}
 use lib.ListN.{length, drop}
-use borrow.Author.Rules.{rules}
 use Rattle.text.specs.Bytes.{bytes_before}
-use Rattle.text.proofs.Before.{before_here, before-later, before-none}
 use Rattle.text.proofs.bytes.find_byte.Given as goal
 
 abbrev pub invariant-loop-i : goal.invariant-loop-i

@@ -1,12 +1,8 @@
 -- The bytes passed are pasted, the rest of the buffer is as it was.
-use Rattle.text.proofs.Placing.{placed-in, placed-out}
 use Prim.Native.Nat.{◌≤◌, ◌-◌}
-use mathlib.Core.Path.{◌≡◌, refl, ◌∙◌}
-use lib.ListN.{length, length-set}
-use lib.Seq.{paste, paste-zero, paste-suc, take-length}
-use native.Mathlib.Numerals.{add-one}
-use native.Mathlib.Omega.{arith}
-use borrow.Author.Rules.{rules}
+use mathlib.Core.Path.{◌≡◌}
+use lib.ListN.{length}
+use lib.Seq.{paste}
 use Rattle.text.proofs.bytes.put.Given as goal
 
 abbrev pub invariant-loop-j : goal.invariant-loop-j

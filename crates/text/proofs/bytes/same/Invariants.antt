@@ -1,13 +1,7 @@
 -- Every byte passed is equal in both.
 use Prim.Native.Nat.{ℕ, ◌≤◌, ◌<◌, ◌-◌}
-use mathlib.Core.Bool.{false≢true}
-use mathlib.Core.List.{List}
-use mathlib.Core.Path.{◌≡◌, refl, ap}
-use borrow.Author.Count.{below_none, below_more}
+use mathlib.Core.Path.{◌≡◌}
 use lib.ListN.{length, get_or}
-use lib.Seq.{ext_get_or}
-use native.Mathlib.Omega.{arith}
-use borrow.Author.Rules.{rules}
 use Rattle.text.proofs.bytes.same.Given as goal
 
 abbrev pub invariant-loop-i : goal.invariant-loop-i

@@ -1,7 +1,6 @@
 -- The tests say whether the line still fits.
 use Rattle.text.proofs.Pieces.{held-over, held-within}
 use native.Mathlib.Omega.{arith}
-use borrow.Author.Rules.{rules}
 use Rattle.text.proofs.lines.settled.Goals as goal
 
 pub returns-then-limit-len : goal.returns-then-limit-len

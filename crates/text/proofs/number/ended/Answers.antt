@@ -1,6 +1,5 @@
 -- The tests are those of the definition, in its order.
 use borrow.Author.Tests.{lt-ltb, le-ltb, eq-eqb, ne_eqb}
-use borrow.Author.Rules.{rules}
 use Rattle.text.proofs.number.ended.Goals as goal
 
 pub returns-then-end-at : goal.returns-then-end-at

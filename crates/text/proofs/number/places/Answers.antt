@@ -1,9 +1,8 @@
-use Prim.Native.Nat.{◌+◌, ◌-◌, ◌^◌, ◌≤◌, ◌<◌}
+use Prim.Native.Nat.{◌+◌, ◌-◌}
 use mathlib.Core.Path.{◌≡◌}
-use Rattle.text.specs.Numbers.{places_up_to, places}
+use Rattle.text.specs.Numbers.{places}
 use Rattle.text.proofs.Spelling.{places-last, places-more}
 use native.Mathlib.Omega.{arith}
-use borrow.Author.Rules.{rules}
 use Rattle.text.proofs.number.places.Goals as goal
 
 pub loop-rest-init : goal.loop-rest-init

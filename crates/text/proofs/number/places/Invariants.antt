@@ -1,10 +1,7 @@
 -- The digits counted, and those of what is left of the number.
 use Prim.Native.Nat.{◌+◌, ◌-◌, ◌^◌, ◌≤◌, ◌<◌}
 use mathlib.Core.Path.{◌≡◌}
-use Rattle.text.specs.Numbers.{places_up_to, places}
-use Rattle.text.proofs.Spelling.{places-last, places-more}
-use native.Mathlib.Omega.{arith}
-use borrow.Author.Rules.{rules}
+use Rattle.text.specs.Numbers.{places_up_to}
 use Rattle.text.proofs.number.places.Given as goal
 
 abbrev pub invariant-loop-rest : goal.invariant-loop-rest

@@ -1,9 +1,6 @@
-use Prim.Native.Nat.{◌-◌}
-use mathlib.Core.Path.{◌≡◌, ◌∙◌}
-use lib.ListN.{length, get_or}
-use Rattle.text.proofs.Reading.{Reading, reading-start, reading-turn, reading-large, reading-ended, digits-stop, value-stop, digits-end, value-end}
+use mathlib.Core.Path.{◌∙◌}
+use Rattle.text.proofs.Reading.{reading-start, reading-turn, reading-large, reading-ended, digits-stop, value-stop, digits-end, value-end}
 use native.Mathlib.Omega.{arith}
-use borrow.Author.Rules.{rules}
 use Rattle.text.proofs.number.read_number.Goals as goal
 
 pub loop-i-init : goal.loop-i-init

@@ -1,10 +1,8 @@
 -- Each turn keeps what `Reading` says; the run of digits ends at another byte or at the end.
 use Prim.Native.Nat.{◌-◌}
-use mathlib.Core.Path.{◌≡◌, ◌∙◌}
+use mathlib.Core.Path.{◌≡◌}
 use lib.ListN.{length, get_or}
-use Rattle.text.proofs.Reading.{Reading, reading-start, reading-turn, reading-large, reading-ended, digits-stop, value-stop, digits-end, value-end}
-use native.Mathlib.Omega.{arith}
-use borrow.Author.Rules.{rules}
+use Rattle.text.proofs.Reading.{Reading}
 use Rattle.text.proofs.number.read_number.Given as goal
 
 abbrev pub invariant-loop-i : goal.invariant-loop-i

@@ -1,10 +1,8 @@
-use Prim.Native.Nat.{◌≤◌}
 use mathlib.Core.Path.{◌≡◌, refl, ◌∙◌, sym}
-use lib.ListN.{length, length-set}
+use lib.ListN.{length-set}
 use Rattle.text.specs.Inner.{written_back}
 use Rattle.text.proofs.Spelling.{back-turn}
 use native.Mathlib.Omega.{arith}
-use borrow.Author.Rules.{rules}
 use Rattle.text.proofs.number.write_back.Goals as goal
 
 pub loop-j-init : goal.loop-j-init

@@ -1,11 +1,8 @@
 -- What is still to be written into the buffer as it is, gives what was to be written into the buffer as it came.
 use Prim.Native.Nat.{◌≤◌}
-use mathlib.Core.Path.{◌≡◌, refl, ◌∙◌, sym}
-use lib.ListN.{length, length-set}
+use mathlib.Core.Path.{◌≡◌}
+use lib.ListN.{length}
 use Rattle.text.specs.Inner.{written_back}
-use Rattle.text.proofs.Spelling.{back-turn}
-use native.Mathlib.Omega.{arith}
-use borrow.Author.Rules.{rules}
 use Rattle.text.proofs.number.write_back.Given as goal
 
 abbrev pub invariant-loop-j : goal.invariant-loop-j

@@ -4,7 +4,6 @@ use Rattle.text.proofs.Spelling.{length-spelled, written-spelled}
 use Rattle.text.proofs.Placing.{placed-out}
 use mathlib.Core.Path.{◌∙◌}
 use native.Mathlib.Omega.{arith}
-use borrow.Author.Rules.{rules}
 use Rattle.text.proofs.number.write_number.Goals as goal
 
 pub returns-then-out-at : goal.returns-then-out-at

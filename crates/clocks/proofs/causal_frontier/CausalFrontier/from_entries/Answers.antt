@@ -1,5 +1,4 @@
 -- The two refusals in their order; else the entries, joined to zeros.
-use Rattle.std.proofs.Common.{rules}
 use Rattle.clocks.specs.Frontiers.{from_entries}
 use Rattle.clocks.proofs.Frontiers.{join-zeros}
 use Rattle.clocks.proofs.causal_frontier.CausalFrontier.from_entries.Goals as goal

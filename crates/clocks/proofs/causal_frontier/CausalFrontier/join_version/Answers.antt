@@ -1,5 +1,4 @@
 -- Well formed or refused; the entries are what `joined_entries` ensures.
-use Rattle.std.proofs.Common.{rules}
 use Rattle.clocks.specs.Frontiers.{join_version}
 use Rattle.clocks.proofs.causal_frontier.CausalFrontier.join_version.Goals as goal
 

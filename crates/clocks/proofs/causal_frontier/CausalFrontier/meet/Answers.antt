@@ -1,5 +1,4 @@
 -- Length and entries are what the two callees ensure.
-use Rattle.std.proofs.Common.{rules}
 use Rattle.clocks.proofs.causal_frontier.CausalFrontier.meet.Goals as goal
 
 pub returns : goal.returns

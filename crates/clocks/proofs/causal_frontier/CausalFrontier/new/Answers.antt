@@ -1,5 +1,4 @@
 -- Refused or zeros, as `is_bad_count` says.
-use Rattle.std.proofs.Common.{rules}
 use Rattle.clocks.specs.Frontiers.{new_frontier}
 use Rattle.clocks.proofs.causal_frontier.CausalFrontier.new.Goals as goal
 

@@ -1,5 +1,4 @@
 -- Refused, or as it was for more desks.
-use Rattle.std.proofs.Common.{rules}
 use Rattle.clocks.specs.Frontiers.{widened}
 use Rattle.clocks.proofs.causal_frontier.CausalFrontier.raise.Goals as goal
 

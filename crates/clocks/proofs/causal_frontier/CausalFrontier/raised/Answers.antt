@@ -1,9 +1,5 @@
 -- The entries are what `joined_entries` ensures.
 -- src/causal_frontier.rt:215:43
-use Rattle.std.proofs.Common.{rules}
-use Rattle.clocks.proofs.causal_frontier.CausalFrontier.raised.Reads as reads
-use Rattle.clocks.proofs.causal_frontier.CausalFrontier.raised.Lts as lts
-use Rattle.clocks.proofs.causal_frontier.joined_entries.Reads as joined-entries-reads
 use Rattle.clocks.proofs.causal_frontier.CausalFrontier.raised.Goals as goal
 
 -- src/causal_frontier.rt:211:5

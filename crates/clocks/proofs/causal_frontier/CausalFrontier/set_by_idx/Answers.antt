@@ -1,5 +1,5 @@
 -- The two refusals in their order; else what `with_entry` ensures.
-use Rattle.std.proofs.Common.{rules, le-ltb, lt-ltb, le-leb}
+use Rattle.std.proofs.Common.{le-ltb, lt-ltb, le-leb}
 use borrow.Author.Tests.{lt-leb}
 use Rattle.clocks.specs.Frontiers.{set_by_idx}
 use Rattle.clocks.proofs.causal_frontier.CausalFrontier.set_by_idx.Goals as goal

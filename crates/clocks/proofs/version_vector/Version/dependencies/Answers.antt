@@ -1,5 +1,5 @@
 -- Both tests for room, in their order; else both buffers are written from the same entries.
-use Rattle.std.proofs.Common.{[], ◌∷◌, refl, rules}
+use Rattle.std.proofs.Common.{[], ◌∷◌, refl}
 use Rattle.laws.specs.Lists.{tabulate}
 use Rattle.clocks.proofs.Versions.{no-room-left, no-room-right, depends}
 use Rattle.clocks.proofs.version_vector.Version.dependencies.Goals as goal

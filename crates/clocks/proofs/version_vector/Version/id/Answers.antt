@@ -1,5 +1,5 @@
 -- The own entry decides: 0 is refused, any other names the event.
-use Rattle.std.proofs.Common.{rules, eq-eqb, ne_eqb}
+use Rattle.std.proofs.Common.{eq-eqb, ne_eqb}
 use Rattle.clocks.specs.Versions.{identified}
 use Rattle.clocks.proofs.version_vector.Version.id.Goals as goal
 

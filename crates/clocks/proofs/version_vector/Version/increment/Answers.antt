@@ -1,5 +1,5 @@
 -- The two refusals in their order; else what `set_by_idx` ensures.
-use Rattle.std.proofs.Common.{rules, le-leb}
+use Rattle.std.proofs.Common.{le-leb}
 use borrow.Author.Tests.{lt-leb}
 use Rattle.clocks.specs.Versions.{incremented}
 use Rattle.clocks.proofs.version_vector.Version.increment.Goals as goal

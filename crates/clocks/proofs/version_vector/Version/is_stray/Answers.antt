@@ -1,5 +1,4 @@
 -- The length against the origin.
-use Rattle.std.proofs.Common.{rules}
 use Rattle.clocks.proofs.version_vector.Version.is_stray.Goals as goal
 
 pub returns : goal.returns

@@ -1,5 +1,5 @@
 -- The refusals in their order; a covered event changes nothing; else what `join` of the frontiers ensures.
-use Rattle.std.proofs.Common.{sym, ◌∙◌, rules}
+use Rattle.std.proofs.Common.{sym, ◌∙◌}
 use Rattle.clocks.specs.Versions.{joined_versions}
 use Rattle.clocks.proofs.Versions.{identified-id, identified-none}
 use Rattle.clocks.proofs.version_vector.Version.join.Goals as goal

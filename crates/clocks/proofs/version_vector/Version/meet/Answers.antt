@@ -1,5 +1,4 @@
 -- The entries are what `meet` of the frontiers ensures.
-use Rattle.std.proofs.Common.{rules}
 use Rattle.clocks.proofs.version_vector.Version.meet.Goals as goal
 
 pub returns : goal.returns

@@ -1,4 +1,3 @@
-use Rattle.std.proofs.Common.{rules}
 use Rattle.clocks.proofs.version_vector.Version.set_by_idx.Goals as goal
 
 pub returns : goal.returns
