@@ -6,7 +6,7 @@ ghost use Rattle.std.specs.Prelude.{◌≡◌, ◌≤◌, length, take};
 
 use graph::{COLUMNS, Pasts, Slots};
 use listing::command::LONGEST_LINE;
-use log::{Answered, LONGEST_ANSWER, Log, answer_line, refuse_line};
+use desk_log::{Answered, LONGEST_ANSWER, Log, answer_line, refuse_line};
 use std::io::{Read, Stdin, Stdout, Write};
 use text::lines::Held;
 
