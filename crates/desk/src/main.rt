@@ -4,9 +4,9 @@
 
 ghost use Rattle.std.specs.Prelude.{◌≡◌, ◌≤◌, length, take};
 
+use desk_log::{Answered, LONGEST_ANSWER, Log, answer_line, refuse_line};
 use graph::{COLUMNS, Pasts, Slots};
 use listing::command::LONGEST_LINE;
-use desk_log::{Answered, LONGEST_ANSWER, Log, answer_line, refuse_line};
 use std::io::{Read, Stdin, Stdout, Write};
 use text::lines::Held;
 
