@@ -8,12 +8,12 @@ STATED = ("promises", "observation", "examples")
 USE = re.compile(r"^(?:ghost )?use (\S+?)\.\{(.*)\};?$", re.M)
 DEFINED = re.compile(r"(?:(?:unfoldable|abbrev|pub|record|data) )+([^\s:(){}]+)")
 CALLED = re.compile(r"^( *)(pub(?:\(super\))? )?fn (\w+)(.*?)^\1\{$", re.M | re.S)
-SPECS = re.compile(r"Rattle·([a-z]+)(?:·specs\.specs|\.specs)\.(.+)$")
+SPECS = re.compile(r"Rattle\.([a-z_]+)\.specs\.(.+)$")
 
 
 def names(text):
     text = re.sub(r"--.*", "", text)
-    return {name for name in re.split(r"[\s(){}\[\],;⌜⌝]", text) if name}
+    return {name for name in re.split(r"[\s(){}\[\],;]", text) if name}
 
 
 def brought(text):
@@ -65,7 +65,7 @@ for path in CRATES.glob("*/src/**/*.rt"):
     seen = library.exists() and (module == "lib" or "pub mod %s;" % module in library.read_text())
     for indent, marked, name, clauses in CALLED.findall(text):
         # A method is seen with its type.
-        for key in cited("\n".join(re.findall(r"(?:ensures|requires) \{(.*)\}", clauses)), brought(text)):
+        for key in cited("\n".join(re.findall(r"(?:ensures|requires)(?: \w+)? \{(.*)\}", clauses)), brought(text)):
             if marked == "pub " and (seen or indent and library.exists()):
                 public.add(key)
             else:

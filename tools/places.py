@@ -1,5 +1,6 @@
 # python3 tools/places.py DIR CRATE FUNCTION: for each need of a function, the places that lead to it, nearest first, each with the number of
 # `.before` in front of it and the fields it has. DIR is where `rt dev CRATE --generated DIR` wrote; FUNCTION is its path, as vector/at_most.
+# For an older Rattle, whose proofs walked the places by hand (Proof.antt): today a hole's goal is printed with every name that can be used.
 import re, sys
 
 where, crate, function = sys.argv[1:4]

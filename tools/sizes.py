@@ -19,11 +19,11 @@ def row(crate):
                 code += 1
     count = lambda paths: sum(len(lines(path, "--")) for path in paths)
     proofs = set(crate.glob("proofs/**/*.antt"))
-    folders = {path for path in proofs if path.name == "Proof.antt"}
+    folders = {path for path in proofs if path.name in ("Invariants.antt", "Answers.antt", "Proof.antt")}
     return [code, contracts, count(crate.glob("specs/**/*.antt")), count(proofs - folders), count(folders)]
 
 
-crates = [line.split(":")[0] for line in open("crates.txt") if line.strip() and not line.startswith("#")]
+crates = [line.split(":")[0].split()[0] for line in open("crates.txt") if line.strip() and not line.startswith("#")]
 total = [0] * 5
 print("| crate | code | contracts | definitions | laws | proofs of functions |\n|---|---|---|---|---|---|")
 for name in crates:

@@ -1,5 +1,6 @@
 # python3 tools/tidy.py FILE..: in a proof file, the comment first, then the `use` lines: merged by module, without names that the file does not
 # use, in the order of the libraries. Lines that only name a place of the source, or a module for display, go.
+# For an older Rattle, whose files began with such lines: today `rt tidy` does it in a proved crate.
 import re, sys
 
 ORDER = ["mathlib.", "Prim.", "native.", "lib.", "borrow."]

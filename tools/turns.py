@@ -2,6 +2,7 @@
 
 The invariant says that the counter has not passed its end and that a lent slice `out` keeps its length; everything else is left to `search needs`.
 A counter named i ends at n and one named k at rounds, unless the loop has an end of its own (i-end).
+For an older Rattle, whose skeletons (Proof.antt) had a line for each goal: today two definitions in Invariants.antt are enough.
 """
 import re
 import sys
