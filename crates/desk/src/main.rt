@@ -2,11 +2,12 @@
 // what it does to the log and what is answered in `log`; here the bytes come in and go out. The tables of the log are locals of `main`, and are lent all the way down.
 #![tactic(auto)]
 
-ghost use Rattle.io.specs.Counts.{IsPrefixLen};
+ghost use Rattle.std.specs.Prelude.{◌≡◌, ◌≤◌, length, take};
 
 use graph::{COLUMNS, Pasts, Slots};
 use listing::command::LONGEST_LINE;
-use log::{Answered, LONGEST_ANSWER, Log, answer_line, refuse_line};
+use desk_log::{Answered, LONGEST_ANSWER, Log, answer_line, refuse_line};
+use std::io::{Read, Stdin, Stdout, Write};
 use text::lines::Held;
 
 // What goes from one read to the next: the line so far, and the log.
@@ -24,21 +25,25 @@ struct Piece {
 }
 
 // One write; how many bytes it took, 0 where it failed.
-fn write_some(part: &[u8]) -> usize
-    ensures { IsPrefixLen result part.now }
+fn write_some(stdout: Stdout, part: &[u8]) -> usize
+    ensures bound { result ≤ length part.now }
+    ensures prefix { result ≡ length (take result part.now) }
 {
-    let got = libc::write(1, part);
-    io::count(got, part)
+    let mut stdout = stdout;
+    match stdout.write(part) {
+        Ok(n) => n,
+        Err(_) => 0,
+    }
 }
 
-// Writes what is collected, straight from its buffer: io's `write_all` has one of its own, 4,096 bytes, for what one write leaves.
-fn flush(out: &[u8], at: usize) {
+// Writes what is collected, straight from its buffer. A write that takes nothing or fails ends it.
+fn flush(stdout: Stdout, out: &[u8], at: usize) {
     if out.len() < at {
         return;
     }
     let mut done: usize = 0;
     while done < at {
-        let n = write_some(&out[done..at]);
+        let n = write_some(stdout, &out[done..at]);
         if n == 0 {
             return;
         }
@@ -47,13 +52,13 @@ fn flush(out: &[u8], at: usize) {
 }
 
 // Room for the longest answer: the place behind what is collected, or the start where that had to be written first.
-fn make_room(out: &[u8], at: usize) -> usize {
+fn make_room(stdout: Stdout, out: &[u8], at: usize) -> usize {
     if at <= out.len() {
         if LONGEST_ANSWER <= out.len() - at {
             return at;
         }
     }
-    flush(out, at);
+    flush(stdout, out, at);
     0
 }
 
@@ -85,6 +90,7 @@ fn answer_held(
 
 // Answers each line that ends in this piece. The answers are written before the next read, so whoever waits for one gets it.
 fn answer_piece(
+    stdout: Stdout,
     log: Log,
     held: Held,
     piece: &[u8],
@@ -102,26 +108,29 @@ fn answer_piece(
         i = taken.next;
         held = taken.held;
         if taken.complete {
-            at = make_room(out, at);
+            at = make_room(stdout, out, at);
             let a = answer_held(log, held, line, out, at, slots, pasts);
             log = a.log;
             at = a.at;
             held = text::lines::fresh();
         }
     }
-    flush(out, at);
+    flush(stdout, out, at);
     Progress { held, log }
 }
 
 // How many bytes one read put at the buffer's start; 0 at the end of the input, or where the read failed.
-fn read_some(input: &mut [u8]) -> usize {
-    let got = libc::read(0, input);
-    io::count(got, input)
+fn read_some(stdin: Stdin, input: &mut [u8]) -> usize {
+    let mut stdin = stdin;
+    match stdin.read(input) {
+        Ok(n) => n,
+        Err(_) => 0,
+    }
 }
 
 // How much there is to answer: what one read brought, or, at the end of the input, the newline that a last line may lack.
-fn next_piece(held: Held, input: &mut [u8]) -> Piece {
-    let n = read_some(input);
+fn next_piece(stdin: Stdin, held: Held, input: &mut [u8]) -> Piece {
+    let n = read_some(stdin, input);
     if 0 < n {
         return Piece {
             len: n,
@@ -148,17 +157,25 @@ fn next_piece(held: Held, input: &mut [u8]) -> Piece {
 }
 
 // A proved loop has to end, and nothing says that the input does: the turns are counted down from a number that no run uses up.
-fn run(input: &mut [u8], line: &mut [u8], out: &mut [u8], slots: &mut Slots, pasts: &mut Pasts) {
+fn run(
+    stdin: Stdin,
+    stdout: Stdout,
+    input: &mut [u8],
+    line: &mut [u8],
+    out: &mut [u8],
+    slots: &mut Slots,
+    pasts: &mut Pasts,
+) {
     let mut log = Log::new();
     let mut held = text::lines::fresh();
     let mut turns = u64::MAX;
     while 0 < turns {
-        let next = next_piece(held, input);
+        let next = next_piece(stdin, held, input);
         if input.len() < next.len {
             return;
         }
         let n = next.len;
-        let p = answer_piece(log, held, &input[0..n], line, out, slots, pasts);
+        let p = answer_piece(stdout, log, held, &input[0..n], line, out, slots, pasts);
         log = p.log;
         held = p.held;
         if next.ended {
@@ -168,11 +185,19 @@ fn run(input: &mut [u8], line: &mut [u8], out: &mut [u8], slots: &mut Slots, pas
     }
 }
 
-fn main() {
-    let mut input = io::large_buffer();
+fn main(rt: HostRuntime) {
+    let mut input = [0u8; 65_536];
     let mut line = [0u8; LONGEST_LINE];
-    let mut out = io::large_buffer();
+    let mut out = [0u8; 65_536];
     let mut slots = [[0usize; 256]; COLUMNS];
     let mut pasts = [0u64; 1024];
-    run(&mut input, &mut line, &mut out, &mut slots, &mut pasts);
+    run(
+        rt.stdin(),
+        rt.stdout(),
+        &mut input,
+        &mut line,
+        &mut out,
+        &mut slots,
+        &mut pasts,
+    );
 }

@@ -2,7 +2,7 @@
 use mathlib.Core.Bool.{true}
 use mathlib.Core.List.{List, []}
 use mathlib.Core.Path.{◌≡◌, sym, ap, ◌∙◌}
-use Prim.Native.Nat.{ℕ, ◌-◌, ◌≤◌}
+use Prim.Native.Nat.{ℕ, ◌≤◌}
 use native.Mathlib.Nat.{le_antisymm}
 use native.Mathlib.Omega.{arith}
 use Rattle.history.specs.Whole.{EventHistory}
@@ -15,7 +15,6 @@ use Rattle.observation.specs.First.{Observes, IsFirst, TellsFirst}
 use Rattle.clocks.specs.declared.tagged_op.TaggedOp.{TaggedOp}
 use Rattle.history.specs.declared.event_history.FirstObserver.{FirstObserver}
 use Rattle.history.specs.declared.event_history.FirstObserver.TheVariants.{Event, NoneYet, Pruned}
-use Rattle.observation.proofs.Next.{one}
 
 -- ---- of a sequence that some event may have, it is the past that `previous` and `next` speak of
 

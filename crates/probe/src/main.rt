@@ -2,6 +2,8 @@
 // It decides nothing by itself. It takes a line apart, makes the call, and prints the refusal number or 0 and what came back.
 #![tactic(auto)]
 
+ghost use Rattle.std.specs.Prelude.{◌≤◌, length};
+
 mod state;
 
 use clocks::vector::Seq;
@@ -9,6 +11,7 @@ use graph::{COLUMNS, Pasts, Slots};
 use history::{Index, Notes};
 use probe_text::parts::bytes;
 use state::{State, answer};
+use std::io::{Read, Stdin, Stdout, Write};
 use text::lines::Held;
 
 // A piece of the input, and the answers to it.
@@ -41,10 +44,29 @@ fn unread() -> Reading {
     }
 }
 
-// Writes what is collected.
-fn flush(out: &[u8], at: usize) {
-    if at <= out.len() {
-        io::write_all(1, &out[0..at]);
+// One write; how many bytes it took, 0 where it failed.
+fn write_some(stdout: Stdout, part: &[u8]) -> usize
+    ensures { result ≤ length part.now }
+{
+    let mut stdout = stdout;
+    match stdout.write(part) {
+        Ok(n) => n,
+        Err(_) => 0,
+    }
+}
+
+// Writes what is collected. A write that takes nothing or fails ends it.
+fn flush(stdout: Stdout, out: &[u8], at: usize) {
+    if out.len() < at {
+        return;
+    }
+    let mut done: usize = 0;
+    while done < at {
+        let n = write_some(stdout, &out[done..at]);
+        if n == 0 {
+            return;
+        }
+        done += n;
     }
 }
 
@@ -56,13 +78,13 @@ fn has_room(out: &[u8], at: usize) -> bool {
 }
 
 // What is collected is written where the longest answer has no room behind it, and before each read, so a driver that waits for answers gets them.
-fn written(r: Reading, out: &Piece, at: usize) -> usize {
+fn written(stdout: Stdout, r: Reading, out: &Piece, at: usize) -> usize {
     if r.at < r.end {
         if has_room(out, at) {
             return at;
         }
     }
-    flush(out, at);
+    flush(stdout, out, at);
     0
 }
 
@@ -86,15 +108,18 @@ fn is_last(end: usize, held: Held) -> bool {
 }
 
 // How many bytes one read put at the buffer's start; 0 at the end of the input, or where the read failed.
-fn read_some(input: &mut Piece) -> usize {
-    let got = libc::read(0, input);
-    io::count(got, input)
+fn read_some(stdin: Stdin, input: &mut Piece) -> usize {
+    let mut stdin = stdin;
+    match stdin.read(input) {
+        Ok(n) => n,
+        Err(_) => 0,
+    }
 }
 
 // The next piece of the input.
-fn refilled(r: Reading, input: &mut Piece) -> Reading {
+fn refilled(stdin: Stdin, r: Reading, input: &mut Piece) -> Reading {
     let held = current(r);
-    let end = read_some(input);
+    let end = read_some(stdin, input);
     Reading {
         at: 0,
         end,
@@ -118,11 +143,11 @@ fn fed(r: Reading, input: &Piece, line: &mut Line) -> Reading {
     }
 }
 
-fn advanced(r: Reading, input: &mut Piece, line: &mut Line) -> Reading {
+fn advanced(stdin: Stdin, r: Reading, input: &mut Piece, line: &mut Line) -> Reading {
     if r.at < r.end {
         return fed(r, input, line);
     }
-    refilled(r, input)
+    refilled(stdin, r, input)
 }
 
 // The line that is held. An overlong one is no line, as an empty one is none.
@@ -135,6 +160,8 @@ fn text_of(held: Held, line: &Line) -> &[u8] {
 
 // A proved loop has to end, and nothing says that the input does: the turns are counted down from a number that no run uses up.
 fn run(
+    stdin: Stdin,
+    stdout: Stdout,
     input: &mut Piece,
     line: &mut Line,
     out: &mut Piece,
@@ -150,11 +177,11 @@ fn run(
     let mut r = unread();
     let mut turns = u64::MAX;
     while 0 < turns {
-        st = st.moved(written(r, out, st.at));
+        st = st.moved(written(stdout, r, out, st.at));
         if r.ended {
             return;
         }
-        r = advanced(r, input, line);
+        r = advanced(stdin, r, input, line);
         if r.whole {
             st = answer(
                 st,
@@ -173,10 +200,10 @@ fn run(
     }
 }
 
-fn main() {
-    let mut input = io::large_buffer();
-    let mut line = io::buffer();
-    let mut out = io::large_buffer();
+fn main(rt: HostRuntime) {
+    let mut input = [0u8; 65_536];
+    let mut line = [0u8; 4096];
+    let mut out = [0u8; 65_536];
     let mut index = [0u16; 8192];
     let mut versions = [0; 8192];
     let mut notes = [0u64; 2560];
@@ -185,6 +212,8 @@ fn main() {
     let mut pasts = [0u64; 1024];
     let mut table = [[0; 22]; 65];
     run(
+        rt.stdin(),
+        rt.stdout(),
         &mut input,
         &mut line,
         &mut out,

@@ -1,5 +1,5 @@
 -- The turns to come are one less each turn.
-use Rattle.std.proofs.Common.{◌≡◌, ◌-◌, ◌≤◌, length, rules}
+use Rattle.std.proofs.Common.{◌≡◌, ◌-◌, ◌≤◌, length}
 use Rattle.probe_text.proofs.answers.numbers.Given as goal
 
 abbrev pub invariant-loop-i : goal.invariant-loop-i

@@ -1,5 +1,5 @@
 -- The turns to come are one less each turn.
-use Rattle.std.proofs.Common.{◌-◌, ◌≤◌, rules}
+use Rattle.std.proofs.Common.{◌-◌, ◌≤◌}
 use Rattle.probe_text.proofs.lent.digest.Given as goal
 
 abbrev pub invariant-loop-i : goal.invariant-loop-i

@@ -1,5 +1,5 @@
 -- Each turn leaves one place less.
-use Rattle.std.proofs.Common.{◌-◌, length, rules}
+use Rattle.std.proofs.Common.{◌-◌, length}
 use Rattle.probe_text.proofs.lent.is_kept.Given as goal
 
 abbrev pub invariant-loop-i : goal.invariant-loop-i

@@ -1,5 +1,5 @@
 -- Each turn fills one more row of the tables.
-use Rattle.std.proofs.Common.{◌≡◌, ◌-◌, length, rules}
+use Rattle.std.proofs.Common.{◌≡◌, ◌-◌, length}
 use Rattle.probe_text.proofs.tokens.parse.Given as goal
 
 abbrev pub invariant-loop-n : goal.invariant-loop-n

@@ -1,5 +1,5 @@
 -- Each turn leaves one letter less.
-use Rattle.std.proofs.Common.{◌-◌, rules}
+use Rattle.std.proofs.Common.{◌-◌}
 use Rattle.probe_text.proofs.words.fits.Given as goal
 
 abbrev pub invariant-loop-i : goal.invariant-loop-i

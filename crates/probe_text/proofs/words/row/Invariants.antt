@@ -1,5 +1,5 @@
 -- Each turn passes one row.
-use Rattle.std.proofs.Common.{◌-◌, rules}
+use Rattle.std.proofs.Common.{◌-◌}
 use Rattle.probe_text.proofs.words.row.Given as goal
 
 abbrev pub invariant-loop-number : goal.invariant-loop-number

@@ -1,0 +1,12 @@
+-- The turns to come are one less each turn.
+use mathlib.Core.Path.{◌≡◌}
+use Prim.Native.Nat.{◌≤◌, ◌-◌}
+use lib.ListN.{length}
+use borrow.Author.Rules.{rules}
+use Rattle.probe_graph.proofs.lists.entries.Given as goal
+
+abbrev pub invariant-loop-i : goal.invariant-loop-i
+invariant-loop-i l = (l.i ≤ l.n) × (length l.out ≡ length l.initial.out)
+
+abbrev pub decreases-loop-i : goal.decreases-loop-i
+decreases-loop-i l = l.n - l.i
