@@ -2,7 +2,6 @@
 use mathlib.Core.Path.{◌≡◌}
 use Prim.Native.Nat.{◌≤◌, ◌-◌}
 use lib.ListN.{length}
-use borrow.Author.Rules.{rules}
 use Rattle.probe_graph.proofs.lists.entries.Given as goal
 
 abbrev pub invariant-loop-i : goal.invariant-loop-i
