@@ -1,5 +1,5 @@
 // `CausalFrontier::set_by_idx` as in the Rust: one entry of the caller's frontier changes. It is thin over the by-value one. Above it stands a
-// function of plain parameters for other callers. Both are proved by a walk of their MIR, by hand.
+// function of plain parameters for other callers.
 ghost use Rattle.std.specs.Prelude.{◌≡◌};
 ghost use Rattle.clocks.specs.Frontiers.{set_by_idx, SetInPlace};
 
@@ -16,7 +16,7 @@ pub fn set_by_idx(frontier: &mut CausalFrontier, idx: ReplicaIdx, value: Seq) ->
     answer.refusal
 }
 
-// The frontier is lent to the call above, and handed back beside the number. A caller of this one needs no walk by hand.
+// The frontier is lent to the call above, and handed back beside the number.
 pub fn set_lent(frontier: CausalFrontier, idx: ReplicaIdx, value: Seq) -> FrontierAnswer
     ensures { result ≡ set_by_idx frontier idx.0 value }
 {

@@ -29,7 +29,7 @@ ext-positions p q a b h =
     (λ k m. let s : j < 4 = omega (arith, a.four) in sym (has-at p j k s m) ∙ h (64 * j + k) ∙ has-at q j k s m)) in
     λ i. record { words = e i }
 
--- the words of a parameter or of a call's result are whole: `search needs` finds both facts
+-- the words of a parameter or of a call's result are whole: `search rules` finds both facts
 pub whole_words : (ws : List ℕ) → length ws ≡ 4 → ((j : ℕ) → Fits w64 (get_or ws j 0)) → Words ws
 whole_words ws l f = record { four = l; fit = λ j. (f j).fits }
 
