@@ -1,5 +1,5 @@
 // The listing program: reads lines on standard input to its end, and prints the answer of each. What a line says stands in `listing`,
-// what it does to the log and what is answered in `log`; here the bytes come in and go out. The tables of the log are locals of `main`, and are lent all the way down.
+// what it does to the log and what is answered in `desk_log`; here the bytes come in and go out. The tables of the log are locals of `main`, and are lent all the way down.
 #![tactic(auto)]
 
 ghost use Rattle.std.specs.Prelude.{◌≡◌, ◌≤◌, length, take};

@@ -270,7 +270,7 @@ version-dependencies-once κs a x y s t p q = depends-once p q
 pub set-lent-once : Once set-lent
 set-lent-once κs a x y s t p q = one_answer p q
 
--- `set_by_idx` over a reference is proved by hand, and the checker reads no `Post` of it: of its contract, the number and the frontier after the call
+-- of the contract of `set_by_idx` over a reference, the number and the frontier after the call
 pub set-in-place-once : (f after after' : CausalFrontier) (i value r r' : ℕ) → SetInPlace f i value r after → SetInPlace f i value r' after' → (r ≡ r') × (after ≡ after')
 set-in-place-once f after after' i value r r' p q = (one_answer p.refusal q.refusal, one_answer p.frontier q.frontier)
 
