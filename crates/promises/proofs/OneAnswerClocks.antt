@@ -11,7 +11,7 @@ use Rattle.clocks.proofs.vector.compare.Reads.{Post as compare}
 use Rattle.clocks.proofs.vector.sum.Reads.{Post as sum}
 use Rattle.clocks.proofs.id.Disambiguator.eq.Reads.{Post as disambiguator-eq}
 use Rattle.clocks.proofs.id.Disambiguator.is_below.Reads.{Post as disambiguator-is-below}
-use Rattle.clocks.proofs.id.code_of.Reads.{Post as code_of_lem}
+use Rattle.clocks.proofs.id.code_of.Reads.{Post as code-of}
 use Rattle.clocks.proofs.id.decoded.Reads.{Post as decoded}
 use Rattle.clocks.proofs.id.EventId.new.Reads.{Post as id-new}
 use Rattle.clocks.proofs.id.EventId.new_with_disambiguator.Reads.{Post as id-new-with-disambiguator}
@@ -100,7 +100,7 @@ disambiguator-eq-once κs a x y s t p q = one_answer p q
 pub disambiguator-is-below-once : Once disambiguator-is-below
 disambiguator-is-below-once κs a x y s t p q = one_answer p q
 
-pub code-of-once : Once code_of_lem
+pub code-of-once : Once code-of
 code-of-once κs a x y s t p q = one_answer p q
 
 pub decoded-once : Once decoded

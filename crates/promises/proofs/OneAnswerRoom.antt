@@ -7,7 +7,7 @@ use Rattle.history.proofs.event_history.EventHistory.replicas.Reads.{Post as rep
 use Rattle.history.proofs.event_history.EventHistory.last_of.Reads.{Post as last_of}
 use Rattle.room.specs.Passing.{LentArrival}
 use Rattle.room.specs.Waiting.{ListsWaiting}
-use Rattle.room.proofs.waiting_room.line_at.Reads.{Post as line_at_lem}
+use Rattle.room.proofs.waiting_room.line_at.Reads.{Post as line-at}
 use Rattle.room.proofs.waiting_room.WaitingRoom.new.Reads.{Post as new}
 use Rattle.room.proofs.waiting_room.WaitingRoom.len.Reads.{Post as len}
 use Rattle.room.proofs.waiting_room.WaitingRoom.id_at.Reads.{Post as id-at}
@@ -26,7 +26,7 @@ replicas-once κs a x y s t p q = one_answer p q
 pub last-of-once : Once last_of
 last-of-once κs a x y s t p q = one_answer p q
 
-pub line-at-once : Once line_at_lem
+pub line-at-once : Once line-at
 line-at-once κs a x y s t p q = one_answer p q
 
 pub room-new-once : Once new
