@@ -1,53 +1,55 @@
 // The graph's side of the benchmark: each function makes a graph of the rows that it is lent, asks it one thing so many times, and adds up something of each answer,
 // so that no part of a call is left out.
-use crate::rows::{asked, counted, desk, event, id, row, version};
-use graph::{COLUMNS, EventGraph, Found, FrontierFound, Order, Pasts, Slots, Told};
-use numbers::size;
-
-// The graph with one more note.
-fn noted(g: EventGraph, note: &[usize], slots: &mut Slots, pasts: &mut Pasts) -> EventGraph {
-    let a = g.append(event(note), version(note), slots, pasts);
-    a.graph
-}
+use crate::rows::{ROW, asked, counted, desk, event, id, version};
+use clocks::causal_frontier::CausalFrontier;
+use clocks::refusal::Refusal;
+use graph::{COLUMNS, EventGraph, Pasts, Slots};
 
 // A graph of the rows, in tables that are emptied first.
-pub(super) fn built(rows: &[usize], n: usize, slots: &mut Slots, pasts: &mut Pasts) -> EventGraph {
+pub(super) fn built(
+    rows: &[usize],
+    n: usize,
+    slots: &mut Slots,
+    pasts: &mut Pasts,
+) -> Result<EventGraph, Refusal> {
     *slots = [[0; 256]; COLUMNS];
     *pasts = [0; 1024];
-    let a = EventGraph::new(16);
-    let mut g = a.graph;
-    for i in 0..n {
-        g = noted(g, row(rows, i), slots, pasts);
+    let mut graph = EventGraph::new(16)?;
+    for note in rows.chunks_exact(ROW).take(n) {
+        let _ = graph.append(event(note), version(note), slots, pasts);
     }
-    g
+    Ok(graph)
+}
+
+// The sum of what `ask` makes of the answer in each round.
+fn rounds_of<A: FnMut(&EventGraph, &Slots, &Pasts, usize) -> usize>(
+    rows: &[usize],
+    n: usize,
+    rounds: usize,
+    mut ask: A,
+) -> usize
+    requires { A.IsAlwaysCallable ask }
+{
+    let mut slots = [[0; 256]; COLUMNS];
+    let mut pasts = [0; 1024];
+    let Ok(graph) = built(rows, n, &mut slots, &mut pasts) else {
+        return 0;
+    };
+    let mut sum: usize = 0;
+    // Rounds are counted: `k` is no index.
+    for k in 0..rounds {
+        sum = sum.wrapping_add(ask(&graph, &slots, &pasts, k));
+    }
+    sum
 }
 
 // The entry of a desk, another one each turn.
-fn reached(f: FrontierFound, k: usize) -> usize {
-    let frontier = f.frontier;
-    frontier.seq_by_idx(desk(k))
+fn reached(frontier: Option<CausalFrontier>, k: usize) -> usize {
+    frontier.map_or(0, |f| f.seq_by_idx(desk(k)))
 }
 
-pub(super) fn told(t: Told) -> usize {
-    match t {
-        Told::Yes => 1,
-        Told::No => 0,
-        Told::Refused(r) => r,
-    }
-}
-
-fn found(f: Found) -> usize {
-    match f {
-        Found::Op(op) => size(op.op),
-        Found::NotFound => 0,
-    }
-}
-
-fn placed(o: Order) -> usize {
-    match o {
-        Order::At(i) => i.0,
-        Order::NotHeld => 0,
-    }
+pub(super) fn told(answer: Result<bool, Refusal>) -> usize {
+    counted(answer.map(usize::from))
 }
 
 #[unsafe(no_mangle)]
@@ -58,15 +60,15 @@ pub extern "C" fn port_graph_greatest(
     m: usize,
     rounds: usize,
 ) -> usize {
-    let mut slots = [[0; 256]; COLUMNS];
-    let mut pasts = [0; 1024];
-    let g = built(rows, n, &mut slots, &mut pasts);
-    let mut sum: usize = 0;
-    for k in 0..rounds {
-        let f = g.greatest_critical_frontier(version(asked(queries, k, m)), &slots);
-        sum = std::num::wrapping_add_usize(sum, reached(f, k));
-    }
-    sum
+    rounds_of(rows, n, rounds, |graph, slots, _, k| {
+        let bound = version(asked(queries, k, m));
+        reached(
+            graph
+                .greatest_critical_frontier(bound, slots)
+                .unwrap_or(None),
+            k,
+        )
+    })
 }
 
 #[unsafe(no_mangle)]
@@ -77,17 +79,9 @@ pub extern "C" fn port_graph_is_critical(
     m: usize,
     rounds: usize,
 ) -> usize {
-    let mut slots = [[0; 256]; COLUMNS];
-    let mut pasts = [0; 1024];
-    let g = built(rows, n, &mut slots, &mut pasts);
-    let mut sum: usize = 0;
-    for k in 0..rounds {
-        sum = std::num::wrapping_add_usize(
-            sum,
-            told(g.is_critical(version(asked(queries, k, m)), &slots)),
-        );
-    }
-    sum
+    rounds_of(rows, n, rounds, |graph, slots, _, k| {
+        told(graph.is_critical(version(asked(queries, k, m)), slots))
+    })
 }
 
 #[unsafe(no_mangle)]
@@ -98,14 +92,9 @@ pub extern "C" fn port_graph_seen_all(
     m: usize,
     rounds: usize,
 ) -> usize {
-    let mut slots = [[0; 256]; COLUMNS];
-    let mut pasts = [0; 1024];
-    let g = built(rows, n, &mut slots, &mut pasts);
-    let mut sum: usize = 0;
-    for k in 0..rounds {
-        sum = std::num::wrapping_add_usize(sum, told(g.seen_all(version(asked(queries, k, m)))));
-    }
-    sum
+    rounds_of(rows, n, rounds, |graph, _, _, k| {
+        told(graph.seen_all(version(asked(queries, k, m))))
+    })
 }
 
 #[unsafe(no_mangle)]
@@ -117,17 +106,9 @@ pub extern "C" fn port_graph_predecessors(
     rounds: usize,
     out: &mut [usize],
 ) -> usize {
-    let mut slots = [[0; 256]; COLUMNS];
-    let mut pasts = [0; 1024];
-    let g = built(rows, n, &mut slots, &mut pasts);
-    let mut sum: usize = 0;
-    for k in 0..rounds {
-        sum = counted(
-            sum,
-            g.predecessors(version(asked(queries, k, m)), &slots, out),
-        );
-    }
-    sum
+    rounds_of(rows, n, rounds, |graph, slots, _, k| {
+        counted(graph.predecessors(version(asked(queries, k, m)), slots, out))
+    })
 }
 
 #[unsafe(no_mangle)]
@@ -139,17 +120,9 @@ pub extern "C" fn port_graph_concurrent(
     rounds: usize,
     out: &mut [usize],
 ) -> usize {
-    let mut slots = [[0; 256]; COLUMNS];
-    let mut pasts = [0; 1024];
-    let g = built(rows, n, &mut slots, &mut pasts);
-    let mut sum: usize = 0;
-    for k in 0..rounds {
-        sum = counted(
-            sum,
-            g.concurrent(version(asked(queries, k, m)), &slots, out),
-        );
-    }
-    sum
+    rounds_of(rows, n, rounds, |graph, slots, _, k| {
+        counted(graph.concurrent(version(asked(queries, k, m)), slots, out))
+    })
 }
 
 #[unsafe(no_mangle)]
@@ -159,14 +132,12 @@ pub extern "C" fn port_graph_frontier(
     rounds: usize,
     out: &mut [usize],
 ) -> usize {
-    let mut slots = [[0; 256]; COLUMNS];
-    let mut pasts = [0; 1024];
-    let g = built(rows, n, &mut slots, &mut pasts);
-    let mut sum: usize = 0;
-    for k in 0..rounds {
-        sum = counted(sum, g.frontier(&pasts, out));
-    }
-    sum
+    rounds_of(
+        rows,
+        n,
+        rounds,
+        |graph, _, pasts, _| counted(graph.frontier(pasts, out)),
+    )
 }
 
 #[unsafe(no_mangle)]
@@ -178,27 +149,9 @@ pub extern "C" fn port_graph_direct_predecessors(
     rounds: usize,
     out: &mut [usize],
 ) -> usize {
-    let mut slots = [[0; 256]; COLUMNS];
-    let mut pasts = [0; 1024];
-    let g = built(rows, n, &mut slots, &mut pasts);
-    parents_rounds(g, queries, m, rounds, &slots, &pasts, out)
-}
-
-fn parents_rounds<'a>(
-    g: EventGraph,
-    queries: &[usize],
-    m: usize,
-    rounds: usize,
-    slots: &'a Slots,
-    pasts: &'a Pasts,
-    out: &mut [usize],
-) -> usize {
-    let mut sum: usize = 0;
-    for k in 0..rounds {
-        let note = id(asked(queries, k, m));
-        sum = counted(sum, g.direct_predecessors(note, slots, pasts, out));
-    }
-    sum
+    rounds_of(rows, n, rounds, |graph, slots, pasts, k| {
+        counted(graph.direct_predecessors(id(asked(queries, k, m)), slots, pasts, out))
+    })
 }
 
 #[unsafe(no_mangle)]
@@ -209,14 +162,11 @@ pub extern "C" fn port_graph_get(
     m: usize,
     rounds: usize,
 ) -> usize {
-    let mut slots = [[0; 256]; COLUMNS];
-    let mut pasts = [0; 1024];
-    let g = built(rows, n, &mut slots, &mut pasts);
-    let mut sum: usize = 0;
-    for k in 0..rounds {
-        sum = std::num::wrapping_add_usize(sum, found(g.get(id(asked(queries, k, m)), &slots)));
-    }
-    sum
+    rounds_of(rows, n, rounds, |graph, slots, _, k| {
+        graph
+            .get(id(asked(queries, k, m)), slots)
+            .map_or(0, |op| op.op as usize)
+    })
 }
 
 #[unsafe(no_mangle)]
@@ -227,28 +177,14 @@ pub extern "C" fn port_graph_delivery_order(
     m: usize,
     rounds: usize,
 ) -> usize {
-    let mut slots = [[0; 256]; COLUMNS];
-    let mut pasts = [0; 1024];
-    let g = built(rows, n, &mut slots, &mut pasts);
-    let mut sum: usize = 0;
-    for k in 0..rounds {
-        sum = std::num::wrapping_add_usize(
-            sum,
-            placed(g.delivery_order(id(asked(queries, k, m)), &slots)),
-        );
-    }
-    sum
+    rounds_of(rows, n, rounds, |graph, slots, _, k| {
+        graph
+            .delivery_order(id(asked(queries, k, m)), slots)
+            .map_or(0, |i| i.0)
+    })
 }
 
 #[unsafe(no_mangle)]
 pub extern "C" fn port_graph_roots(rows: &[usize], n: usize, rounds: usize) -> usize {
-    let mut slots = [[0; 256]; COLUMNS];
-    let mut pasts = [0; 1024];
-    let g = built(rows, n, &mut slots, &mut pasts);
-    let mut sum: usize = 0;
-    for k in 0..rounds {
-        let f = g.roots();
-        sum = std::num::wrapping_add_usize(sum, reached(f, k));
-    }
-    sum
+    rounds_of(rows, n, rounds, |graph, _, _, k| reached(graph.roots(), k))
 }

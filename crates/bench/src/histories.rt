@@ -1,137 +1,138 @@
 // The history's side of the benchmark: each function makes a history of the rows that it is lent, makes one call so many times, and adds up what came back.
-use crate::rows::{asked, counted, desk, event, id, replica, row, rows_from, seq, version};
+use crate::rows::{ROW, asked, counted, desk, event, id, replica, row, seq, version};
+use clocks::refusal::Refusal;
+use clocks::tagged_op::TaggedOp;
 use clocks::vector::Seq;
-use history::event_history::{EventHistory, Found};
+use history::event_history::EventHistory;
 use history::{Index, Notes};
-use numbers::less;
 
-// So many notes more. The history goes on in one place: handed over in each turn, two copies of it would be counted with each append.
-fn grown(
-    h: EventHistory,
-    rows: &[usize],
-    n: usize,
-    index: &mut Index,
-    versions: &mut [Seq; 8192],
-    notes: &mut Notes,
-    boundaries: &[Seq; 256],
-) -> EventHistory {
-    let mut h = h;
-    for i in 0..n {
-        let note = row(rows, i);
-        let a = h.append(
-            event(note),
-            version(note),
-            index,
-            versions,
-            notes,
-            boundaries,
-        );
-        h = a.history;
-    }
-    h
+// The tables of a history.
+#[derive(Drop)]
+struct Tables<'a> {
+    index: &'a mut Index,
+    versions: &'a mut [Seq; 8192],
+    notes: &'a mut Notes,
+    boundaries: &'a mut [Seq; 256],
 }
 
-fn built(
-    rows: &[usize],
-    n: usize,
-    index: &mut Index,
-    versions: &mut [Seq; 8192],
-    notes: &mut Notes,
-    boundaries: &[Seq; 256],
-) -> EventHistory {
-    let a = EventHistory::new(16);
-    let h = a.history;
-    grown(h, rows, n, index, versions, notes, boundaries)
-}
-
-// One more where something was found.
-fn found(sum: usize, f: Found) -> usize {
-    match f {
-        Found::Op(op) => std::num::wrapping_add_usize(sum, 1),
-        Found::Nothing => sum,
-    }
-}
-
-#[unsafe(no_mangle)]
-pub extern "C" fn port_history_append(rows: &[usize], n: usize, rounds: usize) -> usize {
-    let mut index = [0u16; 8192];
-    let mut versions = [0; 8192];
-    let mut notes = [0u64; 2560];
-    let boundaries = [0; 256];
-    let mut sum: usize = 0;
-    for k in 0..rounds {
-        let h = built(rows, n, &mut index, &mut versions, &mut notes, &boundaries);
-        sum = std::num::wrapping_add_usize(sum, h.len());
-    }
-    sum
-}
-
-// The note i and the fifteen before it removed, and with them all of their desks.
-fn emptied(
-    h: EventHistory,
-    rows: &[usize],
-    i: usize,
-    index: &Index,
-    versions: &[Seq; 8192],
-    boundaries: &mut [Seq; 256],
-) -> EventHistory {
-    let mut h = h;
-    for k in 0..16usize {
-        let a = h.remove(id(row(rows, less(i, k))), index, versions, boundaries);
-        h = a.history;
-    }
-    h
-}
-
-// 512 notes more, and all of them removed.
-fn turned(
-    h: EventHistory,
-    rows: &[usize],
-    index: &mut Index,
-    versions: &mut [Seq; 8192],
-    notes: &mut Notes,
-    boundaries: &mut [Seq; 256],
-) -> EventHistory {
-    let h = grown(h, rows, 512, index, versions, notes, boundaries);
-    emptied(h, rows, 511, index, versions, boundaries)
-}
-
-// All notes, 512 at a time: from the second time on every row is given again.
-fn in_turns(
-    rows: &[usize],
-    n: usize,
-    index: &mut Index,
-    versions: &mut [Seq; 8192],
-    notes: &mut Notes,
-    boundaries: &mut [Seq; 256],
-) -> EventHistory {
-    let a = EventHistory::new(16);
-    let mut h = a.history;
-    let mut from: usize = 0;
-    for i in 0..n / 512 {
-        h = turned(h, rows_from(rows, from), index, versions, notes, boundaries);
-        from = std::num::wrapping_add_usize(from, 512);
-    }
-    h
-}
-
-#[unsafe(no_mangle)]
-pub extern "C" fn port_history_again(rows: &[usize], n: usize, rounds: usize) -> usize {
+// What `work` makes of tables that are zeros.
+fn with_tables<W: FnOnce(&mut Tables) -> usize>(work: W) -> usize
+    requires { W.IsAlwaysCallable work }
+{
     let mut index = [0u16; 8192];
     let mut versions = [0; 8192];
     let mut notes = [0u64; 2560];
     let mut boundaries = [0; 256];
-    let mut sum: usize = 0;
-    for k in 0..rounds {
-        let h = in_turns(
-            rows,
-            n,
-            &mut index,
-            &mut versions,
-            &mut notes,
-            &mut boundaries,
+    let mut tables = Tables {
+        index: &mut index,
+        versions: &mut versions,
+        notes: &mut notes,
+        boundaries: &mut boundaries,
+    };
+    work(&mut tables)
+}
+
+// So many notes more.
+fn grow(history: &mut EventHistory, rows: &[usize], n: usize, tables: &mut Tables) {
+    for note in rows.chunks_exact(ROW).take(n) {
+        let _ = history.append(
+            event(note),
+            version(note),
+            tables.index,
+            tables.versions,
+            tables.notes,
+            tables.boundaries,
         );
-        sum = std::num::wrapping_add_usize(sum, h.len());
+    }
+}
+
+fn built(rows: &[usize], n: usize, tables: &mut Tables) -> Result<EventHistory, Refusal> {
+    let mut history = EventHistory::new(16)?;
+    grow(&mut history, rows, n, tables);
+    Ok(history)
+}
+
+// The sum of what `ask` makes of the answer in each round.
+fn rounds_of<A: FnMut(&EventHistory, &Tables, usize) -> usize>(
+    rows: &[usize],
+    n: usize,
+    rounds: usize,
+    ask: A,
+) -> usize
+    requires { (f : _) (history : _) (tables : _) (k : _) → A.pre f history tables k }
+{
+    with_tables(
+        |tables|
+            requires { (f : _) (history : _) (tables : _) (k : _) → A.pre f history tables k }
+        {
+            match built(rows, n, tables) {
+                Ok(history) => asked_rounds(&history, tables, rounds, ask),
+                Err(_) => 0,
+            }
+        },
+    )
+}
+
+fn asked_rounds<A: FnMut(&EventHistory, &Tables, usize) -> usize>(
+    history: &EventHistory,
+    tables: &Tables,
+    rounds: usize,
+    mut ask: A,
+) -> usize
+    requires { (f : _) (history : _) (tables : _) (k : _) → A.pre f history tables k }
+{
+    let mut sum: usize = 0;
+    // Rounds are counted: `k` is no index.
+    for k in 0..rounds {
+        sum = sum.wrapping_add(ask(history, tables, k));
+    }
+    sum
+}
+
+// Whether something was found.
+fn found(op: Option<TaggedOp>) -> usize {
+    usize::from(op.is_some())
+}
+
+#[unsafe(no_mangle)]
+pub extern "C" fn port_history_append(rows: &[usize], n: usize, rounds: usize) -> usize {
+    with_tables(|tables| append_rounds(rows, n, rounds, tables))
+}
+
+fn append_rounds(rows: &[usize], n: usize, rounds: usize, tables: &mut Tables) -> usize {
+    let mut sum: usize = 0;
+    for _ in 0..rounds {
+        sum = sum.wrapping_add(built(rows, n, tables).map_or(0, |history| history.len()));
+    }
+    sum
+}
+
+// The last note of these and the fifteen before it removed, and with them all of their desks.
+fn empty(history: &mut EventHistory, rows: &[usize], tables: &mut Tables) {
+    for note in rows.chunks_exact(ROW).rev().take(16) {
+        history.remove(id(note), tables.index, tables.versions, tables.boundaries);
+    }
+}
+
+// All notes, 512 at a time, and all of them removed: from the second time on every row is given again.
+fn in_turns(rows: &[usize], n: usize, tables: &mut Tables) -> Result<EventHistory, Refusal> {
+    let mut history = EventHistory::new(16)?;
+    for turn in rows.chunks_exact(512 * ROW).take(n / 512) {
+        grow(&mut history, turn, 512, tables);
+        empty(&mut history, turn, tables);
+    }
+    Ok(history)
+}
+
+#[unsafe(no_mangle)]
+pub extern "C" fn port_history_again(rows: &[usize], n: usize, rounds: usize) -> usize {
+    with_tables(|tables| again_rounds(rows, n, rounds, tables))
+}
+
+fn again_rounds(rows: &[usize], n: usize, rounds: usize, tables: &mut Tables) -> usize {
+    let mut sum: usize = 0;
+    for _ in 0..rounds {
+        sum = sum.wrapping_add(in_turns(rows, n, tables).map_or(0, |history| history.len()));
     }
     sum
 }
@@ -144,27 +145,9 @@ pub extern "C" fn port_history_get(
     m: usize,
     rounds: usize,
 ) -> usize {
-    let mut index = [0u16; 8192];
-    let mut versions = [0; 8192];
-    let mut notes = [0u64; 2560];
-    let boundaries = [0; 256];
-    let h = built(rows, n, &mut index, &mut versions, &mut notes, &boundaries);
-    get_rounds(h, queries, m, rounds, &index, &notes)
-}
-
-fn get_rounds(
-    h: EventHistory,
-    queries: &[usize],
-    m: usize,
-    rounds: usize,
-    index: &Index,
-    notes: &Notes,
-) -> usize {
-    let mut sum: usize = 0;
-    for k in 0..rounds {
-        sum = found(sum, h.get(id(asked(queries, k, m)), index, notes));
-    }
-    sum
+    rounds_of(rows, n, rounds, |history, tables, k| {
+        found(history.get(id(asked(queries, k, m)), tables.index, tables.notes))
+    })
 }
 
 #[unsafe(no_mangle)]
@@ -175,32 +158,12 @@ pub extern "C" fn port_history_version(
     m: usize,
     rounds: usize,
 ) -> usize {
-    let mut index = [0u16; 8192];
-    let mut versions = [0; 8192];
-    let mut notes = [0u64; 2560];
-    let boundaries = [0; 256];
-    let h = built(rows, n, &mut index, &mut versions, &mut notes, &boundaries);
-    version_rounds(h, queries, m, rounds, &index, &notes, &versions)
-}
-
-fn version_rounds(
-    h: EventHistory,
-    queries: &[usize],
-    m: usize,
-    rounds: usize,
-    index: &Index,
-    notes: &Notes,
-    versions: &[Seq; 8192],
-) -> usize {
-    let mut sum: usize = 0;
-    for k in 0..rounds {
-        sum = std::num::wrapping_add_usize(
-            sum,
-            h.version(id(asked(queries, k, m)), index, notes, versions)
-                .len(),
-        );
-    }
-    sum
+    rounds_of(rows, n, rounds, |history, tables, k| {
+        let id = id(asked(queries, k, m));
+        history
+            .version(id, tables.index, tables.notes, tables.versions)
+            .len()
+    })
 }
 
 #[unsafe(no_mangle)]
@@ -211,31 +174,10 @@ pub extern "C" fn port_history_previous(
     m: usize,
     rounds: usize,
 ) -> usize {
-    let mut index = [0u16; 8192];
-    let mut versions = [0; 8192];
-    let mut notes = [0u64; 2560];
-    let boundaries = [0; 256];
-    let h = built(rows, n, &mut index, &mut versions, &mut notes, &boundaries);
-    previous_rounds(h, queries, m, rounds, &index, &notes, &versions)
-}
-
-fn previous_rounds(
-    h: EventHistory,
-    queries: &[usize],
-    m: usize,
-    rounds: usize,
-    index: &Index,
-    notes: &Notes,
-    versions: &[Seq; 8192],
-) -> usize {
-    let mut sum: usize = 0;
-    for k in 0..rounds {
-        sum = found(
-            sum,
-            h.previous(id(asked(queries, k, m)), desk(k), index, notes, versions),
-        );
-    }
-    sum
+    rounds_of(rows, n, rounds, |history, tables, k| {
+        let id = id(asked(queries, k, m));
+        found(history.previous(id, desk(k), tables.index, tables.notes, tables.versions))
+    })
 }
 
 #[unsafe(no_mangle)]
@@ -246,31 +188,10 @@ pub extern "C" fn port_history_next(
     m: usize,
     rounds: usize,
 ) -> usize {
-    let mut index = [0u16; 8192];
-    let mut versions = [0; 8192];
-    let mut notes = [0u64; 2560];
-    let boundaries = [0; 256];
-    let h = built(rows, n, &mut index, &mut versions, &mut notes, &boundaries);
-    next_rounds(h, queries, m, rounds, &index, &versions, &notes)
-}
-
-fn next_rounds(
-    h: EventHistory,
-    queries: &[usize],
-    m: usize,
-    rounds: usize,
-    index: &Index,
-    versions: &[Seq; 8192],
-    notes: &Notes,
-) -> usize {
-    let mut sum: usize = 0;
-    for k in 0..rounds {
-        sum = found(
-            sum,
-            h.next(id(asked(queries, k, m)), desk(k), index, versions, notes),
-        );
-    }
-    sum
+    rounds_of(rows, n, rounds, |history, tables, k| {
+        let id = id(asked(queries, k, m));
+        found(history.next(id, desk(k), tables.index, tables.versions, tables.notes))
+    })
 }
 
 #[unsafe(no_mangle)]
@@ -282,30 +203,9 @@ pub extern "C" fn port_history_predecessors(
     rounds: usize,
     out: &mut [usize],
 ) -> usize {
-    let mut index = [0u16; 8192];
-    let mut versions = [0; 8192];
-    let mut notes = [0u64; 2560];
-    let boundaries = [0; 256];
-    let h = built(rows, n, &mut index, &mut versions, &mut notes, &boundaries);
-    predecessors_rounds(h, queries, m, rounds, &index, out)
-}
-
-fn predecessors_rounds(
-    h: EventHistory,
-    queries: &[usize],
-    m: usize,
-    rounds: usize,
-    index: &Index,
-    out: &mut [usize],
-) -> usize {
-    let mut sum: usize = 0;
-    for k in 0..rounds {
-        sum = counted(
-            sum,
-            h.predecessors(version(asked(queries, k, m)), index, out),
-        );
-    }
-    sum
+    rounds_of(rows, n, rounds, |history, tables, k| {
+        counted(history.predecessors(version(asked(queries, k, m)), tables.index, out))
+    })
 }
 
 #[unsafe(no_mangle)]
@@ -317,27 +217,9 @@ pub extern "C" fn port_history_concurrent(
     rounds: usize,
     out: &mut [usize],
 ) -> usize {
-    let mut index = [0u16; 8192];
-    let mut versions = [0; 8192];
-    let mut notes = [0u64; 2560];
-    let boundaries = [0; 256];
-    let h = built(rows, n, &mut index, &mut versions, &mut notes, &boundaries);
-    concurrent_rounds(h, queries, m, rounds, &index, out)
-}
-
-fn concurrent_rounds(
-    h: EventHistory,
-    queries: &[usize],
-    m: usize,
-    rounds: usize,
-    index: &Index,
-    out: &mut [usize],
-) -> usize {
-    let mut sum: usize = 0;
-    for k in 0..rounds {
-        sum = counted(sum, h.concurrent(version(asked(queries, k, m)), index, out));
-    }
-    sum
+    rounds_of(rows, n, rounds, |history, tables, k| {
+        counted(history.concurrent(version(asked(queries, k, m)), tables.index, out))
+    })
 }
 
 #[unsafe(no_mangle)]
@@ -347,16 +229,12 @@ pub extern "C" fn port_history_iter(
     rounds: usize,
     out: &mut [usize],
 ) -> usize {
-    let mut index = [0u16; 8192];
-    let mut versions = [0; 8192];
-    let mut notes = [0u64; 2560];
-    let boundaries = [0; 256];
-    let h = built(rows, n, &mut index, &mut versions, &mut notes, &boundaries);
-    let mut sum: usize = 0;
-    for k in 0..rounds {
-        sum = counted(sum, h.iter(&index, out));
-    }
-    sum
+    rounds_of(
+        rows,
+        n,
+        rounds,
+        |history, tables, _| counted(history.iter(tables.index, out)),
+    )
 }
 
 #[unsafe(no_mangle)]
@@ -368,31 +246,10 @@ pub extern "C" fn port_history_replica_events(
     rounds: usize,
     out: &mut [usize],
 ) -> usize {
-    let mut index = [0u16; 8192];
-    let mut versions = [0; 8192];
-    let mut notes = [0u64; 2560];
-    let boundaries = [0; 256];
-    let h = built(rows, n, &mut index, &mut versions, &mut notes, &boundaries);
-    replica_events_rounds(h, queries, m, rounds, &index, out)
-}
-
-fn replica_events_rounds(
-    h: EventHistory,
-    queries: &[usize],
-    m: usize,
-    rounds: usize,
-    index: &Index,
-    out: &mut [usize],
-) -> usize {
-    let mut sum: usize = 0;
-    for k in 0..rounds {
+    rounds_of(rows, n, rounds, |history, tables, k| {
         let note = asked(queries, k, m);
-        sum = counted(
-            sum,
-            h.replica_events(replica(note), 0, seq(note), index, out),
-        );
-    }
-    sum
+        counted(history.replica_events(replica(note), 0, seq(note), tables.index, out))
+    })
 }
 
 #[unsafe(no_mangle)]
@@ -404,48 +261,14 @@ pub extern "C" fn port_history_newly(
     rounds: usize,
     out: &mut [usize],
 ) -> usize {
-    let mut index = [0u16; 8192];
-    let mut versions = [0; 8192];
-    let mut notes = [0u64; 2560];
-    let boundaries = [0; 256];
-    let h = built(rows, n, &mut index, &mut versions, &mut notes, &boundaries);
-    newly_rounds(
-        h,
-        queries,
-        m,
-        rounds,
-        &index,
-        &notes,
-        &versions,
-        &boundaries,
-        out,
-    )
-}
-
-fn newly_rounds<'a>(
-    h: EventHistory,
-    queries: &[usize],
-    m: usize,
-    rounds: usize,
-    index: &Index,
-    notes: &Notes,
-    versions: &'a [Seq; 8192],
-    boundaries: &'a [Seq; 256],
-    out: &mut [usize],
-) -> usize {
-    let mut sum: usize = 0;
-    for k in 0..rounds {
-        sum = counted(
-            sum,
-            h.newly_observed_by(
-                id(asked(queries, k, m)),
-                index,
-                notes,
-                versions,
-                boundaries,
-                out,
-            ),
-        );
-    }
-    sum
+    rounds_of(rows, n, rounds, |history, tables, k| {
+        counted(history.newly_observed_by(
+            id(asked(queries, k, m)),
+            tables.index,
+            tables.notes,
+            tables.versions,
+            tables.boundaries,
+            out,
+        ))
+    })
 }

@@ -1,20 +1,25 @@
 -- Laws of frontiers: join is the least upper bound and meet the greatest lower bound; what a version includes it covers; every call
 -- keeps a frontier well made; and well-made frontiers that compare equal are equal.
-use Rattle.std.proofs.Common.{◌≡◌, ℕ, ◌<◌, ◌≤◌, min, max, true, false, ltb, List, length, get_or, set, replicate, sym, refl, ap, ◌∙◌, ⊎_elim, arith, length-set, get_or-set_other, get_or-set_same, ext_get_or, ltb-false, le-ltb, eq-eqb, ne_eqb}
+use Rattle.std.proofs.Common.{◌≡◌, ℕ, ◌<◌, ◌≤◌, min, max, true, false, ◌&&◌, eqb, nat_eq, [], ◌∷◌, eqb-true, Some, Result, Ok, Err, ltb, List, length, get_or, set, replicate, sym, refl, ap, ◌∙◌, ⊎_elim, arith, length-set, get_or-set_other, get_or-set_same, ext_get_or, ltb-false, le-ltb, eq-eqb, ne_eqb}
+use Rattle.std.specs.Result.{ResultUnwrapsOrElse}
+use Rattle.std.specs.Cmp.Lexicographic.{pointwise}
+use Rattle.std.specs.declared.cmp.Ordering.TheVariants.{Equal}
 use mathlib.Core.Bool.{false≢true}
 use native.Mathlib.Nat.{max-le, le-max_left, le-max_right, min-le_left, min-le_right, le-min}
 use native.Mathlib.Decide.{ℕ_discrete}
 use Rattle.laws.specs.Counting.{pick}
 use Rattle.laws.specs.Lists.{tabulate}
 use Rattle.laws.proofs.Lists.{get_or-zeros, tabulate-cong, get_or-tabulate, get_or-tabulate-all, length-tabulate}
-use Rattle.laws.proofs.Orders.{true-or-false, or-neither}
-use Rattle.clocks.specs.Refusals.{accepted, bad_count}
+use Rattle.laws.proofs.Orders.{true-or-false, or-neither, and_both, bool_iff}
+use Rattle.clocks.specs.contracts.causal_frontier.CausalFrontierPartialEq.TheImpl as frontier_eq
+use Rattle.clocks.specs.Refusals.{accepted, bad_count, number_in}
 use Rattle.clocks.specs.Vectors.{top, desks, entry, well_formed, covers, at_most, compared}
-use Rattle.clocks.specs.Frontiers.{FrontierOk, zeros, join_entries, meet_entries, joined, met, is_bad_count, new_frontier, from_entries, is_bad_raise, widened}
+use Rattle.clocks.specs.Frontiers.{FrontierAnswer, made as answer_of, answered, FrontierOk, zeros, join_entries, meet_entries, joined, met, is_bad_count, new_frontier, from_entries, is_bad_raise, widened, same_frontier}
 use Rattle.clocks.specs.declared.causal_frontier.CausalFrontier.{CausalFrontier}
 use Rattle.clocks.specs.declared.id.EventId.{EventId}
-use Rattle.clocks.specs.declared.vector.Comparison.TheVariants.{Equal}
-use Rattle.clocks.proofs.Vectors.{entry-out, well-formed-length, well-formed-entry, well-formed-out, at-most-intro, at-most-elim, at-most-antisym, covers-mono, compared-tells, Tells}
+use Rattle.clocks.specs.declared.refusal.Refusal.{Refusal}
+use Rattle.clocks.proofs.Refusals.{number-some, same-answer, same-refusal}
+use Rattle.clocks.proofs.Vectors.{entry-out, well-formed-length, well-formed-entry, well-formed-out, at-most-intro, at-most-elim, at-most-refl, at-most-antisym, covers-mono, compared-tells, Tells}
 
 -- ---- entries of a join and of a meet
 
@@ -39,6 +44,8 @@ met_at v w e i l = ap (λ (x : List ℕ). entry x i) e ∙ get_or-tabulate (λ j
 pub join-zeros : (v : List ℕ) → join_entries (replicate 16 0) v ≡ tabulate (entry v) desks
 unfolding join_entries
 join-zeros v = tabulate-cong (λ i. max (entry (replicate 16 0) i) (entry v i)) (entry v) desks (λ i l. rw (get_or-zeros 16 i) (omega arith))
+
+pub ruleset zero_joins = (join-zeros)
 
 -- ---- join is the least upper bound, meet the greatest lower bound
 
@@ -85,6 +92,26 @@ from-entries-ok r v l h = record {
   where
     same : (i : ℕ) → get_or (tabulate (entry v) desks) i 0 ≡ entry v i
     same = get_or-tabulate-all (entry v) desks (λ i p. well-formed-out r v h i (omega arith))
+
+-- the number and the frontier of a creation's answer; of a refused one the frontier is the default
+pub made-number : (r : Result CausalFrontier Refusal) → number_in r ≡ (answer_of r).refusal
+made-number (Ok f) = refl
+made-number (Err refusal) = refl
+
+pub made-frontier : (r : Result CausalFrontier Refusal) (f : CausalFrontier) → ResultUnwrapsOrElse r (λ g. g ≡ zeros 0) f → f ≡ (answer_of r).frontier
+made-frontier (Ok g) f e = e
+made-frontier (Err refusal) f e = e
+
+-- what a creation answered tells the Result
+pub made-tells : (r s : Result CausalFrontier Refusal) → answer_of r ≡ answer_of s → r ≡ s
+made-tells (Ok f) (Ok g) e = ap (λ (a : FrontierAnswer). Ok a.frontier) e
+made-tells (Ok f) (Err b) e = absurd (number-some b (ap (λ (a : FrontierAnswer). a.refusal) (sym e)))
+made-tells (Err a) (Ok g) e = absurd (number-some a (ap (λ (a : FrontierAnswer). a.refusal) e))
+made-tells (Err a) (Err b) e = ap Err (same-refusal a b (ap (λ (a : FrontierAnswer). a.refusal) e))
+
+-- and so does what a change answered, with the frontier after it
+pub answered-tells : (r s : Result (Unit {0}) Refusal) (f g : CausalFrontier) → answered r f ≡ answered s g → (r ≡ s) × (f ≡ g)
+answered-tells r s f g e = (same-answer r s (ap (λ (a : FrontierAnswer). a.refusal) e), ap (λ (a : FrontierAnswer). a.frontier) e)
 
 -- a frontier made from a well-formed vector says the same
 pub made : (r : ℕ) (v : List ℕ) → r ≤ desks → well_formed r v ≡ true
@@ -170,9 +197,9 @@ module _ (f g : CausalFrontier) (a : FrontierOk f) (b : FrontierOk g) where
       λ t. record { len = l t; entries = e t }
 
   -- so `Equal` is equality
-  pub compared-equal-eq : f.len ≡ g.len → compared f.entries g.entries ≡ Equal → f ≡ g
+  pub compared-equal-eq : f.len ≡ g.len → compared f.entries g.entries ≡ Some Equal → f ≡ g
   compared-equal-eq l e =
-      let t : Tells Equal (at_most f.entries g.entries) (at_most g.entries f.entries) = rw e at (compared-tells f.entries g.entries) in
+      let t : Tells (Some Equal) (at_most f.entries g.entries) (at_most g.entries f.entries) = rw e at (compared-tells f.entries g.entries) in
       frontier-ext l (at-most-antisym f.entries g.entries t.0 t.1)
 
 -- a version joined to a frontier
@@ -239,3 +266,26 @@ unfolding widened
 widen-len f r e = ⊎_elim
     (λ (t : is_bad_raise f.len r ≡ true). absurd (omega (arith, rw t at e)))
     (λ (z : is_bad_raise f.len r ≡ false). rw z) (true-or-false (is_bad_raise f.len r))
+
+-- ---- what the derived `==` answers
+
+rows-equal : (v w : List ℕ) → pointwise nat_eq v w ≡ true → v ≡ w
+rows-equal [] [] e = refl
+rows-equal [] (y ∷ w) e = absurd (false≢true e)
+rows-equal (x ∷ v) [] e = absurd (false≢true e)
+rows-equal (x ∷ v) (y ∷ w) e = let p = and_both (eqb x y) (pointwise nat_eq v w) e in
+    rw (eqb-true x y p.0, rows-equal v w p.1)
+
+rows-same : (v : List ℕ) → pointwise nat_eq v v ≡ true
+rows-same [] = refl
+rows-same (x ∷ v) = rw (eq-eqb x x refl) (rows-same v)
+
+pub derived-same-frontier : (f g : CausalFrontier) → length f.entries ≡ length g.entries → (frontier_eq.ghosts).eq f g ≡ same_frontier f g
+derived-same-frontier f g l =
+    let v = f.entries in
+    let w = g.entries in
+    ap (λ b. eqb f.len g.len && b)
+    (bool_iff (pointwise nat_eq v w) (at_most v w && at_most w v)
+    (λ t. rw (rows-equal v w t, at-most-refl w))
+    (λ t. let p = and_both (at_most v w) (at_most w v) t in
+    rw (ext_get_or 0 v w l (λ i k. at-most-antisym v w p.0 p.1 i)) (rows-same w)))

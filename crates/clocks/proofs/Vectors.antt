@@ -1,14 +1,14 @@
 -- Laws of vectors that the crates above cite instead of the definitions' text.
-use Rattle.std.proofs.Common.{◌≡◌, ℕ, ◌<◌, ◌≤◌, Bool, true, false, eqb, leb, List, length, refl, ⊎_elim, mod-eq_of_lt, le_antisymm, arith, eqb-true, le-leb, leb-true}
+use Rattle.std.proofs.Common.{◌≡◌, ℕ, ◌<◌, ◌≤◌, ◌↔◌, IsTrue, EachIndex, slice_index, Bool, true, false, eqb, leb, zero, suc, ◌+◌, ◌%◌, ◌^◌, List, [], ◌∷◌, fold, length, Option, Some, None, refl, ap, ◌∙◌, zero-add, ⊎_elim, mod-eq_of_lt, le_antisymm, arith, eqb-true, le-leb, leb-true}
+use Rattle.std.specs.declared.cmp.Ordering.{Ordering}
+use Rattle.std.specs.declared.cmp.Ordering.TheVariants.{Less, Equal, Greater}
 use lib.ListN.{get_or-eq_default}
 use Rattle.laws.specs.Counting.{all_below, sum_below}
-use Rattle.laws.proofs.Orders.{le-or-lt, and_both}
+use Rattle.laws.proofs.Orders.{le-or-lt, and_both, bool_iff}
 use Rattle.laws.proofs.Counting.{all-intro, all-elim}
 use Rattle.laws.proofs.Sums.{sum-le}
 use Rattle.clocks.specs.Vectors.{top, entry, well_formed, well_formed_for, covers, at_most, compared_by, compared, total}
 use Rattle.clocks.specs.declared.id.EventId.{EventId}
-use Rattle.clocks.specs.declared.vector.Comparison.{Comparison}
-use Rattle.clocks.specs.declared.vector.Comparison.TheVariants.{Equal, Above, Below, Beside}
 
 -- ---- entries
 
@@ -41,6 +41,13 @@ well-formed-out r v h i l = entry-out v i (omega (arith, well-formed-length r v 
 pub well-formed-more : (r s : ℕ) (v : List ℕ) → r ≤ s → well_formed r v ≡ true → well_formed s v ≡ true
 well-formed-more r s v l h = well-formed s v (omega (arith, well-formed-length r v h)) (well-formed-entry r v h)
 
+-- the test of each entry decides
+pub formed-by : (b : Bool) (r : ℕ) (v : List ℕ) → length v ≤ r → (IsTrue b ↔ EachIndex v (λ k. slice_index v k ≤ top)) → b ≡ well_formed r v
+formed-by b r v l h =
+    bool_iff b (well_formed r v)
+    (λ t. well-formed r v l (λ i. ⊎_elim (λ (o : length v ≤ i). rw (entry-out v i o) (omega arith)) (λ (p : i < length v). h.0 t i p) (le-or-lt (length v) i)))
+    (λ t. h.1 (λ k p. well-formed-entry r v t k))
+
 -- an event's vector is well formed, and its own entry is its sequence
 pub well-formed-for : (r : ℕ) (v : List ℕ) (id : EventId) → well_formed_for r v id ≡ true → (well_formed r v ≡ true) × (entry v id.idx.0 ≡ id.seq)
 unfolding well_formed_for
@@ -56,6 +63,23 @@ total-exact r v l h =
     let e = well-formed-length r v h in
     mod-eq_of_lt (omega (arith, s, e))
 
+-- a sum from the front wraps to the same
+sum-first : (f : ℕ → ℕ) (n : ℕ) → sum_below f (suc n) ≡ f 0 + sum_below (λ k. f (suc k)) n
+unfolding sum_below
+sum-first f zero = omega arith
+sum-first f (suc n) = omega (arith, sum-first f n)
+
+folded : (v : List ℕ) (a : ℕ) → fold (λ s x. (s + x) % 2 ^ 64) (a % 2 ^ 64) v ≡ (a + sum_below (entry v) (length v)) % 2 ^ 64
+unfolding sum_below
+folded [] a = omega arith
+folded (x ∷ xs) a =
+    let e : (a % 2 ^ 64 + x) % 2 ^ 64 ≡ (a + x) % 2 ^ 64 = omega arith in
+    rw (e, folded xs (a + x), sum-first (entry (x ∷ xs)) (length xs)) (omega arith)
+
+pub total-folded : (v : List ℕ) → fold (λ s x. (s + x) % 2 ^ 64) 0 v ≡ total v
+unfolding total
+total-folded v = folded v 0 ∙ ap (λ n. n % 2 ^ 64) (zero-add (sum_below (entry v) (length v)))
+
 -- ---- at most: a partial order on what vectors say
 
 pub at-most-intro : (v w : List ℕ) → ((i : ℕ) → entry v i ≤ entry w i) → at_most v w ≡ true
@@ -67,6 +91,12 @@ unfolding at_most
 at-most-elim v w h i =
     ⊎_elim (λ (l : length v ≤ i). rw (entry-out v i l) (omega arith))
     (λ (l : i < length v). leb-true (entry v i) (entry w i) (all-elim (λ j. leb (entry v j) (entry w j)) (length v) h i l)) (le-or-lt (length v) i)
+
+pub at-most-by : (b : Bool) (v w : List ℕ) → (IsTrue b ↔ EachIndex v (λ k. slice_index v k ≤ slice_index w k)) → b ≡ at_most v w
+at-most-by b v w h =
+    bool_iff b (at_most v w)
+    (λ t. at-most-intro v w (λ i. ⊎_elim (λ (o : length v ≤ i). rw (entry-out v i o) (omega arith)) (λ (p : i < length v). h.0 t i p) (le-or-lt (length v) i)))
+    (λ t. h.1 (λ k p. at-most-elim v w t k))
 
 pub at-most-refl : (v : List ℕ) → at_most v v ≡ true
 at-most-refl v = at-most-intro v v (λ i. omega arith)
@@ -80,28 +110,28 @@ at-most-antisym v w p q i = le_antisymm (at-most-elim v w p i) (at-most-elim w v
 
 -- ---- compare: four answers, each given exactly when its two tests say so
 
-pub compared-equal : (v w : List ℕ) → at_most v w ≡ true → at_most w v ≡ true → compared v w ≡ Equal
+pub compared-equal : (v w : List ℕ) → at_most v w ≡ true → at_most w v ≡ true → compared v w ≡ Some Equal
 unfolding compared
 compared-equal v w p q = rw (p, q)
 
-pub compared-below : (v w : List ℕ) → at_most v w ≡ true → at_most w v ≡ false → compared v w ≡ Below
+pub compared-below : (v w : List ℕ) → at_most v w ≡ true → at_most w v ≡ false → compared v w ≡ Some Less
 unfolding compared
 compared-below v w p q = rw (p, q)
 
-pub compared-above : (v w : List ℕ) → at_most v w ≡ false → at_most w v ≡ true → compared v w ≡ Above
+pub compared-above : (v w : List ℕ) → at_most v w ≡ false → at_most w v ≡ true → compared v w ≡ Some Greater
 unfolding compared
 compared-above v w p q = rw (p, q)
 
-pub compared-beside : (v w : List ℕ) → at_most v w ≡ false → at_most w v ≡ false → compared v w ≡ Beside
+pub compared-beside : (v w : List ℕ) → at_most v w ≡ false → at_most w v ≡ false → compared v w ≡ None
 unfolding compared
 compared-beside v w p q = rw (p, q)
 
 -- what an answer tells of its two tests
-abbrev pub Tells : Comparison → Bool → Bool → Type 0
-Tells Equal p q = (p ≡ true) × (q ≡ true)
-Tells Below p q = (p ≡ true) × (q ≡ false)
-Tells Above p q = (p ≡ false) × (q ≡ true)
-Tells Beside p q = (p ≡ false) × (q ≡ false)
+abbrev pub Tells : Option Ordering → Bool → Bool → Type 0
+Tells (Some Equal) p q = (p ≡ true) × (q ≡ true)
+Tells (Some Less) p q = (p ≡ true) × (q ≡ false)
+Tells (Some Greater) p q = (p ≡ false) × (q ≡ true)
+Tells None p q = (p ≡ false) × (q ≡ false)
 
 tells : (p q : Bool) → Tells (compared_by p q) p q
 tells true true = (refl, refl)
@@ -115,11 +145,11 @@ unfolding compared
 compared-tells v w = tells (at_most v w) (at_most w v)
 
 -- the other way round: above becomes below
-abbrev pub mirrored : Comparison → Comparison
-mirrored Equal = Equal
-mirrored Above = Below
-mirrored Below = Above
-mirrored Beside = Beside
+abbrev pub mirrored : Option Ordering → Option Ordering
+mirrored (Some Equal) = Some Equal
+mirrored (Some Greater) = Some Less
+mirrored (Some Less) = Some Greater
+mirrored None = None
 
 mirror : (p q : Bool) → compared_by q p ≡ mirrored (compared_by p q)
 mirror true true = refl

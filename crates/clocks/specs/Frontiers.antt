@@ -1,11 +1,16 @@
 -- Frontiers: R entries in an array of sixteen, and what each call on them answers.
-use Rattle.std.specs.Prelude.{◌≡◌, ℕ, ◌≤◌, min, max, Bool, ◌&&◌, ◌||◌, List, length, replicate, ◌==◌, nat_le, nat_lt, slice_set}
+use Rattle.std.specs.Prelude.{◌≡◌, ℕ, ◌≤◌, min, max, Bool, ◌&&◌, ◌||◌, List, length, replicate, ◌==◌, nat_le, nat_lt, slice_set, Result, Ok, Err}
 use Rattle.laws.specs.Counting.{pick}
 use Rattle.laws.specs.Lists.{tabulate}
-use Rattle.clocks.specs.Refusals.{accepted, bad_origin, bad_vector, bad_count}
+use Rattle.clocks.specs.Refusals.{accepted, bad_origin, bad_vector, bad_count, number_of, number_in}
 use Rattle.clocks.specs.Vectors.{top, desks, entry, well_formed, at_most}
 use Rattle.clocks.specs.declared.causal_frontier.CausalFrontier.{CausalFrontier}
-use Rattle.clocks.specs.declared.causal_frontier.FrontierAnswer.{FrontierAnswer}
+use Rattle.clocks.specs.declared.refusal.Refusal.{Refusal}
+
+-- what a call answers: the refusal number, and the frontier that it hands back. A refusal hands back the one that came in, or an empty one
+pub record FrontierAnswer : Type 0 where
+  pub refusal : ℕ
+  pub frontier : CausalFrontier
 
 -- a frontier that some call made: R within the limits, entries up to the top, and nothing at R and above
 pub record FrontierOk (f : CausalFrontier) : Type 0 where
@@ -20,6 +25,15 @@ zeros r = record { len = r; entries = replicate 16 0 }
 
 abbrev pub answer : ℕ → CausalFrontier → FrontierAnswer
 answer number f = record { refusal = number; frontier = f }
+
+-- the answer of a call that makes a frontier
+abbrev pub made : Result CausalFrontier Refusal → FrontierAnswer
+made (Ok f) = answer accepted f
+made (Err refusal) = answer (number_of refusal) (zeros 0)
+
+-- the answer of a call that changes the caller's frontier, and that frontier after it
+abbrev pub answered : Result (Unit {0}) Refusal → CausalFrontier → FrontierAnswer
+answered r after = answer (number_in r) after
 
 -- R is 0 or above 16
 abbrev pub is_bad_count : ℕ → Bool

@@ -1,9 +1,9 @@
 -- Document 01, Sizes: vectors, what one covers, and how two compare.
-use Rattle.std.specs.Prelude.{ℕ, ◌%◌, ◌^◌, Bool, true, false, ◌&&◌, ◌||◌, leb, List, length, ◌==◌, nat_le, nat_lt, slice_index}
+use Rattle.std.specs.Prelude.{ℕ, ◌%◌, ◌^◌, Bool, true, false, ◌&&◌, ◌||◌, leb, List, length, ◌==◌, nat_le, nat_lt, slice_index, Option, Some, None}
+use Rattle.std.specs.declared.cmp.Ordering.{Ordering}
+use Rattle.std.specs.declared.cmp.Ordering.TheVariants.{Less, Equal, Greater}
 use Rattle.laws.specs.Counting.{all_below, sum_below}
 use Rattle.clocks.specs.declared.id.EventId.{EventId}
-use Rattle.clocks.specs.declared.vector.Comparison.{Comparison}
-use Rattle.clocks.specs.declared.vector.Comparison.TheVariants.{Equal, Above, Below, Beside}
 
 -- sequences and entries go to this number
 abbrev pub top : ℕ
@@ -37,14 +37,14 @@ covers v id = nat_le id.seq (entry v id.idx.0)
 unfoldable pub at_most : List ℕ → List ℕ → Bool
 at_most v w = all_below (λ i. leb (entry v i) (entry w i)) (length v)
 
-abbrev pub compared_by : Bool → Bool → Comparison
-compared_by true true = Equal
-compared_by true false = Below
-compared_by false true = Above
-compared_by false false = Beside
+abbrev pub compared_by : Bool → Bool → Option Ordering
+compared_by true true = Some Equal
+compared_by true false = Some Less
+compared_by false true = Some Greater
+compared_by false false = None
 
--- vectors compare entry by entry: equal, above, below, beside
-unfoldable pub compared : List ℕ → List ℕ → Comparison
+-- vectors compare entry by entry: equal, above, below, or beside, which is None
+unfoldable pub compared : List ℕ → List ℕ → Option Ordering
 compared v w = compared_by (at_most v w) (at_most w v)
 
 -- the sum of the entries, in 64 bits

@@ -1,23 +1,33 @@
 -- Versions: the entries of a frontier with the replica that they belong to, and what each call on them answers.
-use Rattle.std.specs.Prelude.{◌≡◌, ℕ, ◌+◌, ◌-◌, Bool, ◌&&◌, ◌||◌, List, length, ◌==◌, nat_le, nat_lt}
+use Rattle.std.specs.Prelude.{◌≡◌, ℕ, ◌+◌, ◌-◌, Bool, ◌&&◌, ◌||◌, List, length, ◌==◌, nat_le, nat_lt, Result, Ok, Err}
 use Rattle.laws.specs.Counting.{pick, count_below}
 use Rattle.laws.specs.Lists.{list_below, written}
-use Rattle.clocks.specs.Refusals.{accepted, bad_origin, bad_sequence, bad_vector, no_room}
+use Rattle.clocks.specs.Refusals.{accepted, bad_origin, bad_sequence, bad_vector, number_of, number_in}
 use Rattle.clocks.specs.Vectors.{top, desks, entry, covers}
-use Rattle.clocks.specs.Frontiers.{joined, new_frontier, set_by_idx}
-use Rattle.clocks.specs.declared.causal_frontier.FrontierAnswer.{FrontierAnswer}
+use Rattle.clocks.specs.Frontiers.{FrontierAnswer, zeros, joined, new_frontier, set_by_idx}
 use Rattle.clocks.specs.declared.id.EventId.{EventId}
 use Rattle.clocks.specs.declared.id.Disambiguator.TheVariants.{Absent}
-use Rattle.clocks.specs.declared.refusal.Listed.{Listed}
-use Rattle.clocks.specs.declared.refusal.Listed.TheVariants.{Count, Refused}
+use Rattle.clocks.specs.declared.refusal.Refusal.{Refusal}
+use Rattle.clocks.specs.declared.refusal.Refusal.TheVariants.{BadSequence, NoRoom}
 use Rattle.clocks.specs.declared.replica.ReplicaIdx.{ReplicaIdx}
 use Rattle.clocks.specs.declared.version_vector.Version.{Version}
-use Rattle.clocks.specs.declared.version_vector.VersionAnswer.{VersionAnswer}
-use Rattle.clocks.specs.declared.version_vector.Identified.{Identified}
-use Rattle.clocks.specs.declared.version_vector.Identified.TheVariants.{Id, NoId}
+
+-- what a call answers: the refusal number, and the version that it hands back. A refusal hands back the one that came in
+pub record VersionAnswer : Type 0 where
+  pub refusal : ℕ
+  pub version : Version
 
 abbrev pub answer_v : ℕ → Version → VersionAnswer
 answer_v number v = record { refusal = number; version = v }
+
+-- the answer of a call that makes a version; a refused one is empty
+abbrev pub made_v : ReplicaIdx → Result Version Refusal → VersionAnswer
+made_v idx (Ok v) = answer_v accepted v
+made_v idx (Err refusal) = answer_v (number_of refusal) (record { entries = zeros 0; origin_idx = idx })
+
+-- the answer of a call that changes the caller's version, and that version after it
+abbrev pub answered_v : Result (Unit {0}) Refusal → Version → VersionAnswer
+answered_v r after = answer_v (number_in r) after
 
 -- the entry at a version's own replica
 abbrev pub own_entry : Version → ℕ
@@ -28,8 +38,8 @@ abbrev pub own_id : Version → EventId
 own_id v = record { idx = v.origin_idx; seq = own_entry v; disambiguator = Absent }
 
 -- the event that a version is of: 2 where its own entry is 0
-unfoldable pub identified : Version → Identified
-identified v = pick (own_entry v == 0) (NoId bad_sequence) (Id (own_id v))
+unfoldable pub identified : Version → Result EventId Refusal
+identified v = pick (own_entry v == 0) (Err BadSequence) (Ok (own_id v))
 
 -- what a call on the entries answered, as a call on the version
 abbrev pub carried : FrontierAnswer → Version → VersionAnswer
@@ -76,7 +86,7 @@ abbrev pub has_room : Version → List ℕ → List ℕ → Bool
 has_room v replicas seqs =
     nat_le (count_below (named v.entries.entries) desks) (length replicas) && nat_le (count_below (named v.entries.entries) desks) (length seqs)
 
-pub record Depends (v : Version) (replicas seqs replicas' seqs' : List ℕ) (r : Listed) : Type 0 where
-  pub answer : r ≡ pick (has_room v replicas seqs) (Count (count_below (named v.entries.entries) desks)) (Refused no_room)
+pub record Depends (v : Version) (replicas seqs replicas' seqs' : List ℕ) (r : Result ℕ Refusal) : Type 0 where
+  pub answer : r ≡ pick (has_room v replicas seqs) (Ok (count_below (named v.entries.entries) desks)) (Err NoRoom)
   pub names : replicas' ≡ pick (has_room v replicas seqs) (written (dependency_replicas v) replicas) replicas
   pub sequences : seqs' ≡ pick (has_room v replicas seqs) (written (dependency_sequences v) seqs) seqs

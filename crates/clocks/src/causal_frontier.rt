@@ -1,57 +1,43 @@
 // Carries over clock/causal_frontier.rs. A frontier holds R and an entry for each of sixteen desks; those at R and above stay 0.
 ghost use Rattle.std.specs.Prelude.{◌≡◌, ◌==◌, slice_set};
 ghost use Rattle.clocks.specs.Vectors.{entry, covers, compared, total};
-ghost use Rattle.clocks.specs.Frontiers.{new_frontier, from_entries, set_by_idx, join_entries, meet_entries, joined, met, join_version, widened, same_frontier, is_bad_count, is_bad_raise};
+ghost use Rattle.clocks.specs.Frontiers.{made, answered, new_frontier, from_entries, SetInPlace, join_entries, meet_entries, joined, met, join_version, widened, is_bad_count, is_bad_raise};
+ghost use Rattle.clocks.specs.Refusals.{number_in};
 
 use crate::id::EventId;
-use crate::refusal::{ACCEPTED, BAD_COUNT, BAD_ORIGIN, BAD_VECTOR};
+use crate::refusal::Refusal;
 use crate::replica::ReplicaIdx;
-use crate::vector::{Comparison, DESKS, Seq, TOP, at_most, compare, seq_by_idx, well_formed};
-use numbers::{larger, smaller};
+use crate::vector::{DESKS, Seq, TOP, compare, seq_by_idx, well_formed};
+use std::cmp::Ordering;
 
 // A component-wise causal cut with no distinguished event origin.
-#[derive(Clone, Copy)]
+#[derive(Clone, Copy, Debug, PartialEq, Eq)]
 pub struct CausalFrontier {
     // R, the number of desks.
     len: usize,
-    entries: [Seq; 16],
-}
-
-// A frontier with the refusal number beside it. A refusal hands back the frontier that came in, or an empty one.
-#[derive(Clone, Copy)]
-pub struct FrontierAnswer {
-    pub refusal: usize,
-    pub frontier: CausalFrontier,
+    entries: [Seq; DESKS],
 }
 
 // Entry by entry the greater of both.
-pub fn joined_entries(a: [Seq; 16], b: &[Seq]) -> [Seq; 16]
+pub fn joined_entries(a: [Seq; DESKS], b: &[Seq]) -> [Seq; DESKS]
     ensures { result ≡ join_entries a b.now }
 {
-    let mut out = a;
-    for i in 0..16usize {
-        out[i] = larger(a[i], seq_by_idx(b, ReplicaIdx(i)));
-    }
-    out
+    std::array::from_fn(|i| a[i].max(seq_by_idx(b, ReplicaIdx(i))))
 }
 
 // Entry by entry the lesser of both.
-pub fn met_entries(a: [Seq; 16], b: &[Seq]) -> [Seq; 16]
+pub fn met_entries(a: [Seq; DESKS], b: &[Seq]) -> [Seq; DESKS]
     ensures { result ≡ meet_entries a b.now }
 {
-    let mut out = a;
-    for i in 0..16usize {
-        out[i] = smaller(a[i], seq_by_idx(b, ReplicaIdx(i)));
-    }
-    out
+    std::array::from_fn(|i| a[i].min(seq_by_idx(b, ReplicaIdx(i))))
 }
 
-// One entry changed; past the array nothing is.
-pub fn with_entry(entries: [Seq; 16], i: usize, value: Seq) -> [Seq; 16]
+// One entry changed; past the array nothing is. With `get_mut` in place of the test the check does not tell what became of the array.
+pub fn with_entry(entries: [Seq; DESKS], i: usize, value: Seq) -> [Seq; DESKS]
     ensures { result ≡ slice_set entries i value }
 {
     let mut out = entries;
-    if i < 16 {
+    if i < DESKS {
         out[i] = value;
     }
     out
@@ -61,14 +47,14 @@ pub fn with_entry(entries: [Seq; 16], i: usize, value: Seq) -> [Seq; 16]
 fn is_bad_count(r: usize) -> bool
     ensures { result ≡ is_bad_count r }
 {
-    if r == 0 { true } else { DESKS < r }
+    r == 0 || DESKS < r
 }
 
 // A raise from R to s: s is no count, or below R.
 pub fn is_bad_raise(r: usize, s: usize) -> bool
     ensures { result ≡ is_bad_raise r s }
 {
-    if is_bad_count(s) { true } else { s < r }
+    is_bad_count(s) || s < r
 }
 
 fn zeros(r: usize) -> CausalFrontier
@@ -76,41 +62,44 @@ fn zeros(r: usize) -> CausalFrontier
 {
     CausalFrontier {
         len: r,
-        entries: [0; 16],
+        entries: [0; DESKS],
     }
 }
 
-fn answer(refusal: usize, frontier: CausalFrontier) -> FrontierAnswer
-    ensures { result ≡ record { refusal = refusal; frontier = frontier } }
-{
-    FrontierAnswer { refusal, frontier }
+// The frontier of no desks.
+impl Default for CausalFrontier {
+    ghost is_default = { λ f. f ≡ Rattle.clocks.specs.Frontiers.zeros 0 };
+
+    fn default() -> CausalFrontier {
+        zeros(0)
+    }
 }
 
 impl CausalFrontier {
-    // A frontier of R zeros, or 17.
-    pub fn new(r: usize) -> FrontierAnswer
-        ensures { result ≡ new_frontier r }
+    // A frontier of R zeros.
+    #[tactic(auto, unfolding(crate::specs::Frontiers::new_frontier))]
+    pub fn new(r: usize) -> Result<CausalFrontier, Refusal>
+        ensures { made result ≡ new_frontier r }
     {
         if is_bad_count(r) {
-            answer(BAD_COUNT, zeros(0))
-        } else {
-            answer(ACCEPTED, zeros(r))
+            return Err(Refusal::BadCount);
         }
+        Ok(zeros(r))
     }
 
-    // The frontier with these entries: 17, then 3.
-    pub fn from_entries(r: usize, v: &[Seq]) -> FrontierAnswer
-        ensures { result ≡ from_entries r v.now }
+    // The frontier with these entries. The count is refused before the vector.
+    #[tactic(auto, using(crate::proofs::Frontiers::zero_joins), unfolding(crate::specs::Frontiers::from_entries))]
+    pub fn from_entries(r: usize, v: &[Seq]) -> Result<CausalFrontier, Refusal>
+        ensures { made result ≡ from_entries r v.now }
     {
         if is_bad_count(r) {
-            return answer(BAD_COUNT, zeros(0));
+            return Err(Refusal::BadCount);
         }
-        if well_formed(r, v) {
-            let entries = joined_entries([0; 16], v);
-            answer(ACCEPTED, CausalFrontier { len: r, entries })
-        } else {
-            answer(BAD_VECTOR, zeros(0))
+        if !well_formed(r, v) {
+            return Err(Refusal::BadVector);
         }
+        let entries = joined_entries([0; DESKS], v);
+        Ok(CausalFrontier { len: r, entries })
     }
 
     // As many zeros.
@@ -133,7 +122,7 @@ impl CausalFrontier {
     }
 
     // The entries, for a call that takes a slice; those at R and above are 0.
-    pub fn entries(self) -> [Seq; 16]
+    pub fn entries(self) -> [Seq; DESKS]
         ensures { result ≡ self.entries }
     {
         self.entries
@@ -142,78 +131,62 @@ impl CausalFrontier {
     pub fn seq_by_idx(self, idx: ReplicaIdx) -> Seq
         ensures { result ≡ entry self.entries idx.0 }
     {
-        let entries = self.entries;
-        seq_by_idx(&entries, idx)
+        seq_by_idx(&self.entries, idx)
     }
 
-    // One entry changed: 1 for a replica R or above, then 3 for a value above the top.
-    pub fn set_by_idx(self, idx: ReplicaIdx, value: Seq) -> FrontierAnswer
-        ensures { result ≡ set_by_idx self idx.0 value }
+    // One entry changed. A replica R or above is refused before a value above the top, and on a refusal nothing changes.
+    #[tactic(auto, unfolding(crate::specs::Frontiers::set_by_idx))]
+    pub fn set_by_idx(&mut self, idx: ReplicaIdx, value: Seq) -> Result<(), Refusal>
+        ensures { SetInPlace self.old idx.0 value (number_in result) self.new }
     {
         let i = idx.0;
         if self.len <= i {
-            return answer(BAD_ORIGIN, self);
+            return Err(Refusal::BadOrigin);
         }
         if TOP < value {
-            return answer(BAD_VECTOR, self);
+            return Err(Refusal::BadVector);
         }
-        let ours = self.entries;
-        let entries = with_entry(ours, i, value);
-        answer(
-            ACCEPTED,
-            CausalFrontier {
-                len: self.len,
-                entries,
-            },
-        )
+        self.entries = with_entry(self.entries, i, value);
+        Ok(())
     }
 
     pub fn sum(self) -> usize
         ensures { result ≡ total self.entries }
     {
-        let entries = self.entries;
-        crate::vector::sum(&entries)
+        crate::vector::sum(&self.entries)
     }
 
-    // Incorporate an event's causal past and the event itself, or 3.
-    pub fn join_version(self, version: &[Seq]) -> FrontierAnswer
-        ensures { result ≡ join_version self version.now }
+    // Incorporate an event's causal past and the event itself.
+    #[tactic(auto, unfolding(crate::specs::Frontiers::join_version))]
+    pub fn join_version(&mut self, version: &[Seq]) -> Result<(), Refusal>
+        ensures { answered result self.new ≡ join_version self.old version.now }
     {
-        if well_formed(self.len, version) {
-            let ours = self.entries;
-            let entries = joined_entries(ours, version);
-            answer(
-                ACCEPTED,
-                CausalFrontier {
-                    len: self.len,
-                    entries,
-                },
-            )
-        } else {
-            answer(BAD_VECTOR, self)
+        if !well_formed(self.len, version) {
+            return Err(Refusal::BadVector);
         }
+        self.entries = joined_entries(self.entries, version);
+        Ok(())
     }
 
-    // More desks: 17 for 0, above 16 and below the present R. The new entries are 0.
-    pub fn raise(self, r: usize) -> FrontierAnswer
-        ensures { result ≡ widened self r }
+    // More desks; 0, above 16 and below the present R are refused. The new entries are 0.
+    #[tactic(auto, unfolding(crate::specs::Frontiers::widened))]
+    pub fn raise(&mut self, r: usize) -> Result<(), Refusal>
+        ensures { answered result self.new ≡ widened self.old r }
     {
         if is_bad_raise(self.len, r) {
-            return answer(BAD_COUNT, self);
+            return Err(Refusal::BadCount);
         }
-        let entries = self.entries;
-        answer(ACCEPTED, CausalFrontier { len: r, entries })
+        self.len = r;
+        Ok(())
     }
 
     // No entry below these. They are the caller's to keep within the top and below R.
-    pub fn raised(self, entries: [Seq; 16]) -> CausalFrontier
+    pub fn raised(self, entries: [Seq; DESKS]) -> CausalFrontier
         ensures { result ≡ record { len = self.len; entries = join_entries self.entries entries } }
     {
-        let ours = self.entries;
-        let raised = joined_entries(ours, &entries);
         CausalFrontier {
             len: self.len,
-            entries: raised,
+            entries: joined_entries(self.entries, &entries),
         }
     }
 
@@ -221,12 +194,9 @@ impl CausalFrontier {
     pub fn join(self, other: CausalFrontier) -> CausalFrontier
         ensures { result ≡ joined self other }
     {
-        let ours = self.entries;
-        let theirs = other.entries;
-        let entries = joined_entries(ours, &theirs);
         CausalFrontier {
-            len: larger(self.len, other.len),
-            entries,
+            len: self.len.max(other.len),
+            entries: joined_entries(self.entries, &other.entries),
         }
     }
 
@@ -234,40 +204,22 @@ impl CausalFrontier {
     pub fn meet(self, other: CausalFrontier) -> CausalFrontier
         ensures { result ≡ met self other }
     {
-        let ours = self.entries;
-        let theirs = other.entries;
-        let entries = met_entries(ours, &theirs);
         CausalFrontier {
-            len: larger(self.len, other.len),
-            entries,
+            len: self.len.max(other.len),
+            entries: met_entries(self.entries, &other.entries),
         }
     }
 
     pub fn contains(self, id: EventId) -> bool
         ensures { result ≡ covers self.entries id }
     {
-        let entries = self.entries;
-        id.is_predecessor_of(&entries)
+        id.is_predecessor_of(&self.entries)
     }
 
-    pub fn partial_cmp(self, other: CausalFrontier) -> Comparison
+    // No `PartialOrd`: the entries alone are compared, and by `==` R too.
+    pub fn partial_cmp(self, other: CausalFrontier) -> Option<Ordering>
         ensures { result ≡ compared self.entries other.entries }
     {
-        let ours = self.entries;
-        let theirs = other.entries;
-        compare(&ours, &theirs)
-    }
-
-    pub fn eq(self, other: CausalFrontier) -> bool
-        ensures { result ≡ same_frontier self other }
-    {
-        let ours = self.entries;
-        let theirs = other.entries;
-        if self.len == other.len {
-            if at_most(&ours, &theirs) {
-                return at_most(&theirs, &ours);
-            }
-        }
-        false
+        compare(&self.entries, &other.entries)
     }
 }

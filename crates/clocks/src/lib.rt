@@ -5,7 +5,6 @@
 pub mod causal_frontier;
 pub mod event;
 pub mod id;
-pub mod in_place;
 pub mod refusal;
 pub mod replica;
 pub mod tagged_op;

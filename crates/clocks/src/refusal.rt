@@ -1,51 +1,71 @@
-// Document 01, Refusal numbers. An answer carries 0 or one of these.
-pub const ACCEPTED: usize = 0;
+// Document 01, Refusal numbers, with those of document 02: each refusal by its name, and the number that stands for it in a line.
+ghost use Rattle.std.specs.Prelude.{◌≡◌};
+ghost use Rattle.clocks.specs.Refusals.{number_of, number_in};
 
-pub const BAD_ORIGIN: usize = 1;
+// Why a call is refused.
+#[derive(Clone, Copy, Debug, PartialEq, Eq)]
+pub enum Refusal {
+    BadOrigin,
+    BadSequence,
+    BadVector,
+    Known,
+    Late,
+    Behind,
+    NotClosed,
+    Full,
+    NotCritical,
+    BadRange,
+    Absent,
+    OutOfTurn,
+    Regressed,
+    Gap,
+    BadMask,
+    NoRoom,
+    BadCount,
+    BadLine,
+    MixedRevision,
+    BadLength,
+    Waiting,
+    RoomFull,
+}
 
-pub const BAD_SEQUENCE: usize = 2;
+impl From<Refusal> for usize {
+    ghost from_gives = { λ refusal n. n ≡ number_of refusal };
 
-pub const BAD_VECTOR: usize = 3;
+    fn from(refusal: Refusal) -> usize {
+        match refusal {
+            Refusal::BadOrigin => 1,
+            Refusal::BadSequence => 2,
+            Refusal::BadVector => 3,
+            Refusal::Known => 4,
+            Refusal::Late => 5,
+            Refusal::Behind => 6,
+            Refusal::NotClosed => 7,
+            Refusal::Full => 8,
+            Refusal::NotCritical => 9,
+            Refusal::BadRange => 10,
+            Refusal::Absent => 11,
+            Refusal::OutOfTurn => 12,
+            Refusal::Regressed => 13,
+            Refusal::Gap => 14,
+            Refusal::BadMask => 15,
+            Refusal::NoRoom => 16,
+            Refusal::BadCount => 17,
+            Refusal::BadLine => 18,
+            Refusal::MixedRevision => 19,
+            Refusal::BadLength => 20,
+            Refusal::Waiting => 21,
+            Refusal::RoomFull => 22,
+        }
+    }
+}
 
-pub const KNOWN: usize = 4;
-
-pub const LATE: usize = 5;
-
-pub const BEHIND: usize = 6;
-
-pub const NOT_CLOSED: usize = 7;
-
-pub const FULL: usize = 8;
-
-pub const NOT_CRITICAL: usize = 9;
-
-pub const BAD_RANGE: usize = 10;
-
-pub const ABSENT: usize = 11;
-
-pub const OUT_OF_TURN: usize = 12;
-
-pub const REGRESSED: usize = 13;
-
-pub const GAP: usize = 14;
-
-pub const BAD_MASK: usize = 15;
-
-pub const NO_ROOM: usize = 16;
-
-pub const BAD_COUNT: usize = 17;
-
-pub const BAD_LINE: usize = 18;
-
-// Document 02, P2.
-pub const MIXED_REVISION: usize = 19;
-
-// Document 02, P3.
-pub const BAD_LENGTH: usize = 20;
-
-// What a call that writes a list answers: how many entries it wrote from the buffer's start, or the refusal number.
-#[derive(Clone, Copy)]
-pub enum Listed {
-    Count(usize),
-    Refused(usize),
+// What a line says of an answer: 0 where it is no refusal.
+pub fn number_in<T: Copy>(answer: Result<T, Refusal>) -> usize
+    ensures { result ≡ number_in answer }
+{
+    match answer {
+        Ok(_) => 0,
+        Err(refusal) => usize::from(refusal),
+    }
 }

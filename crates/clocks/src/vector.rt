@@ -5,6 +5,7 @@ ghost use Rattle.clocks.specs.Vectors.{is_bad_sequence, entry, well_formed, well
 
 use crate::id::EventId;
 use crate::replica::ReplicaIdx;
+use std::cmp::Ordering;
 
 // A sequence number, or a vector's entry.
 pub type Seq = usize;
@@ -15,37 +16,29 @@ pub const TOP: Seq = 4_294_967_295;
 // The most desks.
 pub const DESKS: usize = 16;
 
-// How two vectors compare: the first against the second.
-#[derive(Clone, Copy)]
-pub enum Comparison {
-    Equal,
-    Above,
-    Below,
-    Beside,
-}
-
 // Outside 1 .. the top.
 pub fn is_bad_sequence(seq: Seq) -> bool
     ensures { result ≡ is_bad_sequence seq }
 {
-    if seq == 0 { true } else { TOP < seq }
+    seq == 0 || TOP < seq
 }
 
 pub fn seq_by_idx(v: &[Seq], idx: ReplicaIdx) -> Seq
     ensures { result ≡ entry v.now idx.0 }
 {
-    numbers::entry(v, idx.0)
+    v.get(idx.0).copied().unwrap_or(0)
 }
 
 // At most R long, and no entry above the top. A shorter vector counts as followed by zeros.
+// A loop and no `all`, which took twice the steps for an entry: 10 where the loop takes 5.
 pub fn well_formed(r: usize, v: &[Seq]) -> bool
     ensures { result ≡ well_formed r v.now }
 {
     if r < v.len() {
         return false;
     }
-    for i in 0..v.len() {
-        if TOP < v[i] {
+    for x in v {
+        if TOP < *x {
             return false;
         }
     }
@@ -53,41 +46,32 @@ pub fn well_formed(r: usize, v: &[Seq]) -> bool
 }
 
 // The same, and for an event its own entry equal to its sequence.
+#[tactic(auto, unfolding(crate::specs::Vectors::well_formed_for))]
 pub fn well_formed_for(r: usize, v: &[Seq], id: EventId) -> bool
     ensures { result ≡ well_formed_for r v.now id }
 {
-    if well_formed(r, v) {
-        return seq_by_idx(v, id.idx) == id.seq;
-    }
-    false
+    well_formed(r, v) && seq_by_idx(v, id.idx) == id.seq
 }
 
 // Every entry of `a` is at most `b`'s.
 pub fn at_most(a: &[Seq], b: &[Seq]) -> bool
     ensures { result ≡ at_most a.now b.now }
 {
-    for i in 0..a.len() {
-        if seq_by_idx(b, ReplicaIdx(i)) < a[i] {
-            return false;
-        }
-    }
-    true
+    a.iter()
+        .enumerate()
+        .all(|(i, x)| *x <= seq_by_idx(b, ReplicaIdx(i)))
 }
 
-// `partial_cmp` of the Rust's frontiers.
-pub fn compare(a: &[Seq], b: &[Seq]) -> Comparison
+// `partial_cmp` of the Rust's frontiers: None where neither is at most the other.
+#[tactic(auto, unfolding(crate::specs::Vectors::compared))]
+pub fn compare(a: &[Seq], b: &[Seq]) -> Option<Ordering>
     ensures { result ≡ compared a.now b.now }
 {
-    if at_most(a, b) {
-        if at_most(b, a) {
-            Comparison::Equal
-        } else {
-            Comparison::Below
-        }
-    } else if at_most(b, a) {
-        Comparison::Above
-    } else {
-        Comparison::Beside
+    match (at_most(a, b), at_most(b, a)) {
+        (true, true) => Some(Ordering::Equal),
+        (true, false) => Some(Ordering::Less),
+        (false, true) => Some(Ordering::Greater),
+        (false, false) => None,
     }
 }
 
@@ -95,9 +79,5 @@ pub fn compare(a: &[Seq], b: &[Seq]) -> Comparison
 pub fn sum(v: &[Seq]) -> usize
     ensures { result ≡ total v.now }
 {
-    let mut s: usize = 0;
-    for i in 0..v.len() {
-        s = std::num::wrapping_add_usize(s, v[i]);
-    }
-    s
+    v.iter().fold(0, |s, x| s.wrapping_add(*x))
 }

@@ -5,12 +5,11 @@ use Rattle.positions.specs.Members.{has}
 use Rattle.graph.specs.Whole.{EventGraph}
 use Rattle.graph.specs.Refusals.{late_no, not_closed_no, refusal_of}
 use Rattle.graph.specs.Graphs.{created, appended, parents, place_of}
-use Rattle.graph.specs.Cuts.{greatest, is_critical}
+use Rattle.graph.specs.Cuts.{FrontierFound, greatest, is_critical}
 use Rattle.graph.specs.Removals.{without_id, flushed}
 use Rattle.history.specs.Examples.{answers, expected}
 use Rattle.clocks.specs.declared.event.Event.{Event}
 use Rattle.clocks.specs.declared.id.Disambiguator.TheVariants.{Absent}
-use Rattle.graph.specs.declared.FrontierFound.{FrontierFound}
 
 -- the events of G with their versions, all for revision 0
 abbrev pub note : ℕ → ℕ → ℕ → ℕ → Event

@@ -8,37 +8,27 @@ use native.Mathlib.Omega.{arith}
 use lib.ListN.{length, take, drop, get_or, length-append, length-drop, take-append-drop}
 use lib.Seq.{take-suc, take_at, drop-append-add, drop-drop, length-take-le}
 use Rattle.text.specs.Numbers.{spelled}
-use Rattle.text.specs.Bytes.{placed, placed_end}
+use Rattle.text.specs.Bytes.{Collected, placed, placed_end, with_put}
 use Rattle.text.proofs.Placing.{placed-in}
 use Rattle.text.proofs.Spelling.{digits_le}
-use Rattle.listing.specs.Laying.{laid, laid_end, Laid, joined, spaced, pieces_below}
-
-pub laid_none : (out : List ℕ) (at : ℕ) → Laid out at [] out at
-unfolding laid laid_end
-laid_none out at = record { text = refl; end = refl }
-
--- one piece put
-pub laid-put : (out : List ℕ) (at : ℕ) (p out' : List ℕ) (r : ℕ) → (r ≡ placed_end out at p) × (out' ≡ placed out at p) → Laid out at (p ∷ []) out' r
-unfolding laid laid_end
-laid-put out at p out' r e = record { text = e.1; end = e.0 }
-
-text-append : (out : List ℕ) (at : ℕ) (ps qs : List (List ℕ)) → laid out at (ps ++ qs) ≡ laid (laid out at ps) (laid_end out at ps) qs
-unfolding laid laid_end
-text-append out at [] qs = refl
-text-append out at (p ∷ ps) qs = text-append (placed out at p) (placed_end out at p) ps qs
-
-end-append : (out : List ℕ) (at : ℕ) (ps qs : List (List ℕ)) → laid_end out at (ps ++ qs) ≡ laid_end (laid out at ps) (laid_end out at ps) qs
-unfolding laid laid_end
-end-append out at [] qs = refl
-end-append out at (p ∷ ps) qs = end-append (placed out at p) (placed_end out at p) ps qs
+use Rattle.listing.specs.Laying.{with_pieces, laid, laid_end, Laid, joined, spaced, pieces_below}
 
 -- one run behind another
-pub laid_then : (out : List ℕ) (at : ℕ) (ps qs : List (List ℕ)) (out' out'' : List ℕ) (r' r'' : ℕ) → Laid out at ps out' r' → Laid out' r' qs out'' r'' → Laid out at (ps ++ qs) out'' r''
-laid_then out at ps qs out' out'' r' r'' l m =
-    record {
-      text = m.text ∙ rw (l.text, l.end) (sym (text-append out at ps qs));
-      end = m.end ∙ rw (l.text, l.end) (sym (end-append out at ps qs));
-    }
+pub pieces_append : (b : Collected) (ps qs : List (List ℕ)) → with_pieces b (ps ++ qs) ≡ with_pieces (with_pieces b ps) qs
+pieces_append b [] qs = refl
+pieces_append b (p ∷ ps) qs = pieces_append (with_put b p) ps qs
+
+pub nothing_behind : (ns : List ℕ) → ns ++ [] ≡ ns
+nothing_behind ns = append-nil ns
+
+pub pieces_then : (b : Collected) (ps qs : List (List ℕ)) (b' b'' : Collected) → b' ≡ with_pieces b ps → b'' ≡ with_pieces b' qs → b'' ≡ with_pieces b (ps ++ qs)
+pieces_then b ps qs b' b'' e f = f ∙ ap (λ (x : Collected). with_pieces x qs) e ∙ sym (pieces_append b ps qs)
+
+-- the same, told of the bytes and the place
+pub laid_pieces : (b : Collected) (ps : List (List ℕ)) → Laid b.bytes b.len ps (with_pieces b ps).bytes (with_pieces b ps).len
+unfolding laid laid_end
+laid_pieces b [] = record { text = refl; end = refl }
+laid_pieces b (p ∷ ps) = let m = laid_pieces (with_put b p) ps in record { text = m.text; end = m.end }
 
 -- one more number
 pub spaced-append : (ns ms : List ℕ) → spaced (ns ++ ms) ≡ spaced ns ++ spaced ms

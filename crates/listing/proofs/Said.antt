@@ -18,9 +18,7 @@ use Rattle.listing.specs.Sheets.{SmallTag, SmallId}
 use Rattle.clocks.specs.declared.id.Disambiguator.{Disambiguator}
 use Rattle.clocks.specs.declared.id.Disambiguator.TheVariants.{Absent, Number as number}
 use Rattle.clocks.specs.declared.id.EventId.{EventId}
-use Rattle.listing.specs.declared.fields.Named.TheVariants.{Id}
-use Rattle.listing.specs.declared.fields.Tag.TheVariants.{Given}
-use Rattle.text.specs.declared.number.Number.TheVariants.{Value, Bad}
+use Rattle.std.proofs.Common.{Some, None}
 use Rattle.listing.proofs.Wording.{byte-within}
 
 -- what is left at a place gives the byte there
@@ -32,14 +30,14 @@ left-more : (s p rest : List ℕ) (at : ℕ) → drop at s ≡ p ++ rest → dro
 left-more s p rest at e = sym (drop-drop (length p) at s) ∙ ap (drop (length p)) e ∙ drop-append_seam p rest
 
 -- a number that stands at a place
-number-at : (s rest : List ℕ) (at n : ℕ) → at ≤ length s → drop at s ≡ spelled n ++ rest → n < 2 ^ 64 → digits_in rest ≡ 0 → number_at s at ≡ Value n (at + length (spelled n))
+number-at : (s rest : List ℕ) (at n : ℕ) → at ≤ length s → drop at s ≡ spelled n ++ rest → n < 2 ^ 64 → digits_in rest ≡ 0 → number_at s at ≡ Some (n, at + length (spelled n))
 number-at s rest at n h e small z =
     let l : length (take at s) ≡ at = length-take-le at s h in
     let split : take at s ++ (spelled n ++ rest) ≡ s = ap (λ (r : List ℕ). take at s ++ r) (sym e) ∙ take-append-drop at s in
     rw (split, l) at (read_back (take at s) rest n small z)
 
 pub spaced-at : (s rest : List ℕ) (at n : ℕ) → drop at s ≡ 32 ∷ (spelled n ++ rest) → n < 2 ^ 64 → digits_in rest ≡ 0
-    → (spaced_number s at ≡ Value n (at + 1 + length (spelled n))) × (drop (at + 1 + length (spelled n)) s ≡ rest)
+    → (spaced_number s at ≡ Some (n, at + 1 + length (spelled n))) × (drop (at + 1 + length (spelled n)) s ≡ rest)
 unfolding spaced_number
 spaced-at s rest at n e small z =
     let b : get_or s at 0 ≡ 32 = byte_left s (spelled n ++ rest) at 32 e in
@@ -48,7 +46,7 @@ spaced-at s rest at n e small z =
     (rw b (number-at s rest (at + 1) n (omega (arith, within)) more small z), left-more s (spelled n) rest (at + 1) more)
 
 -- nothing stands behind the end
-spaced-end : (s : List ℕ) (at : ℕ) → drop at s ≡ [] → spaced_number s at ≡ Bad
+spaced-end : (s : List ℕ) (at : ℕ) → drop at s ≡ [] → spaced_number s at ≡ None
 unfolding spaced_number
 spaced-end s at e =
     let b : get_or s at 0 ≡ 0 = ap (λ (k : ℕ). get_or s k 0) (sym (add-zero at)) ∙ sym (get_or-drop at s 0 0) ∙ ap (λ (l : List ℕ). get_or l 0 0) e in
@@ -117,7 +115,7 @@ no-dash n rest e =
     false≢true (rw e at (digit-first (last_digits (places_up_to 20 n) n ++ rest) some))
 
 tag_at : (s rest : List ℕ) (at : ℕ) (d : Disambiguator) → drop at s ≡ tag_text d ++ rest → SmallTag d → digits_in rest ≡ 0
-    → (spaced_tag s at ≡ Given d (at + length (tag_text d))) × (drop (at + length (tag_text d)) s ≡ rest)
+    → (spaced_tag s at ≡ Some (d, at + length (tag_text d))) × (drop (at + length (tag_text d)) s ≡ rest)
 unfolding spaced_tag
 tag_at s rest at Absent e small z =
     let b : get_or s at 0 ≡ 32 = byte_left s (45 ∷ rest) at 32 e in
@@ -137,7 +135,7 @@ abbrev pub id_then : EventId → List ℕ → List ℕ
 id_then id rest = 32 ∷ (spelled id.idx.0 ++ (32 ∷ (spelled id.seq ++ (tag_text id.disambiguator ++ rest))))
 
 pub id-at : (s rest : List ℕ) (at : ℕ) (id : EventId) → drop at s ≡ id_then id rest → SmallId id → digits_in rest ≡ 0
-    → (next : ℕ) × (spaced_id s at ≡ Id id next) × (drop next s ≡ rest)
+    → (next : ℕ) × (spaced_id s at ≡ Some (id, next)) × (drop next s ≡ rest)
 unfolding spaced_id digits_in
 id-at s rest at id e small z =
     let last = tag_text id.disambiguator ++ rest in

@@ -18,7 +18,7 @@ use Rattle.clocks.specs.declared.id.Disambiguator.TheVariants.{Absent, Number as
 use Rattle.clocks.specs.declared.id.EventId.{EventId}
 use Rattle.listing.specs.declared.command.Command.{Command}
 use Rattle.listing.specs.declared.command.Command.TheVariants.{Replicas, Append, Greatest, Check, Advance, Remove, Sheet, Why}
-use Rattle.listing.specs.declared.command.Read.TheVariants.{Line}
+use Rattle.std.proofs.Common.{Some}
 use Rattle.listing.proofs.Laying.{size-spaced}
 use Rattle.listing.proofs.Said.{text, Small, tag_text, id_then, spaced-at, end-left, digits-text, entries_at, id-at}
 
@@ -28,7 +28,7 @@ pub record Sayable (v : List ℕ) : Type 0 where
   pub room : length v ≤ 16
   pub small : Small v
 
-vector-told : (make : ℕ → Command) (s : List ℕ) (at : ℕ) (v : List ℕ) → Sayable v → drop at s ≡ text v → vector_line make 16 s at ≡ (Line (make (length v)), v)
+vector-told : (make : ℕ → Command) (s : List ℕ) (at : ℕ) (v : List ℕ) → Sayable v → drop at s ≡ text v → vector_line make 16 s at ≡ (Some (make (length v)), v)
 unfolding vector_line vector_at
 vector-told make s at v ok e =
     let read = entries_at 16 s at v ok.room ok.small e in
@@ -39,39 +39,39 @@ module _ (n : ℕ) (ns : List ℕ) (ok : Sayable (n ∷ ns)) where
   short : (word : List ℕ) → length word ≤ 8 → length (word ++ text (n ∷ ns)) ≤ 512
   short word h = omega (arith, length-append word (text (n ∷ ns)), size-spaced (n ∷ ns), ok.room)
 
-  pub read-greatest : line_told 16 (bytes "greatest" ++ text (n ∷ ns)) ≡ (Line (Greatest (length (n ∷ ns))), n ∷ ns)
+  pub read-greatest : line_told 16 (bytes "greatest" ++ text (n ∷ ns)) ≡ (Some (Greatest (length (n ∷ ns))), n ∷ ns)
   unfolding line_told by_word bytes_before same_bytes bytes joined spaced
   read-greatest =
       rw (le-ltb 512 (length (bytes "greatest" ++ text (n ∷ ns))) (short (bytes "greatest") (omega arith)))
       (vector-told Greatest (bytes "greatest" ++ text (n ∷ ns)) 8 (n ∷ ns) ok refl)
 
-  pub read-check : line_told 16 (bytes "check" ++ text (n ∷ ns)) ≡ (Line (Check (length (n ∷ ns))), n ∷ ns)
+  pub read-check : line_told 16 (bytes "check" ++ text (n ∷ ns)) ≡ (Some (Check (length (n ∷ ns))), n ∷ ns)
   unfolding line_told by_word bytes_before same_bytes bytes joined spaced
   read-check =
       rw (le-ltb 512 (length (bytes "check" ++ text (n ∷ ns))) (short (bytes "check") (omega arith)))
       (vector-told Check (bytes "check" ++ text (n ∷ ns)) 5 (n ∷ ns) ok refl)
 
-  pub read-advance : line_told 16 (bytes "advance" ++ text (n ∷ ns)) ≡ (Line (Advance (length (n ∷ ns))), n ∷ ns)
+  pub read-advance : line_told 16 (bytes "advance" ++ text (n ∷ ns)) ≡ (Some (Advance (length (n ∷ ns))), n ∷ ns)
   unfolding line_told by_word bytes_before same_bytes bytes joined spaced
   read-advance =
       rw (le-ltb 512 (length (bytes "advance" ++ text (n ∷ ns))) (short (bytes "advance") (omega arith)))
       (vector-told Advance (bytes "advance" ++ text (n ∷ ns)) 7 (n ∷ ns) ok refl)
 
-pub read-replicas : (r : ℕ) → r < 2 ^ 64 → line_told 16 (bytes "replicas" ++ text (r ∷ [])) ≡ (Line (Replicas r), [])
+pub read-replicas : (r : ℕ) → r < 2 ^ 64 → line_told 16 (bytes "replicas" ++ text (r ∷ [])) ≡ (Some (Replicas r), [])
 unfolding line_told by_word bytes_before same_bytes bytes joined spaced numbered_line digits_in
 read-replicas r h =
     let s : List ℕ = bytes "replicas" ++ text (r ∷ []) in
     let told = spaced-at s [] 8 r refl h refl in
     rw (le-ltb 512 (length s) (omega (arith, length-append (bytes "replicas") (text (r ∷ [])), size-spaced (r ∷ []))), told.0, le-leb _ _ (end-left s _ told.1))
 
-pub read-why : (n : ℕ) → n < 2 ^ 64 → line_told 16 (bytes "why" ++ text (n ∷ [])) ≡ (Line (Why n), [])
+pub read-why : (n : ℕ) → n < 2 ^ 64 → line_told 16 (bytes "why" ++ text (n ∷ [])) ≡ (Some (Why n), [])
 unfolding line_told by_word bytes_before same_bytes bytes joined spaced numbered_line digits_in
 read-why n h =
     let s : List ℕ = bytes "why" ++ text (n ∷ []) in
     let told = spaced-at s [] 3 n refl h refl in
     rw (le-ltb 512 (length s) (omega (arith, length-append (bytes "why") (text (n ∷ [])), size-spaced (n ∷ []))), told.0, le-leb _ _ (end-left s _ told.1))
 
-pub read-sheet : line_told 16 (bytes "sheet") ≡ (Line Sheet, [])
+pub read-sheet : line_told 16 (bytes "sheet") ≡ (Some Sheet, [])
 unfolding line_told by_word bytes_before same_bytes bytes sheet_line
 read-sheet = refl
 
@@ -93,7 +93,7 @@ id-le id rest =
       tag-le id.disambiguator,
     )
 
-pub read-remove : (id : EventId) → SmallId id → line_told 16 (bytes "remove" ++ id_then id []) ≡ (Line (Remove id), [])
+pub read-remove : (id : EventId) → SmallId id → line_told 16 (bytes "remove" ++ id_then id []) ≡ (Some (Remove id), [])
 unfolding line_told by_word bytes_before same_bytes bytes remove_line digits_in
 read-remove id small =
     let s : List ℕ = bytes "remove" ++ id_then id [] in
@@ -111,7 +111,7 @@ pub record SmallEvent (e : Event) : Type 0 where
   pub op : e.op < 2 ^ 64
   pub revision : e.revision < 2 ^ 32
 
-pub read-append : (e : Event) (v : List ℕ) → SmallEvent e → Sayable v → line_told 16 (bytes "append" ++ note_then e v) ≡ (Line (Append e (length v)), v)
+pub read-append : (e : Event) (v : List ℕ) → SmallEvent e → Sayable v → line_told 16 (bytes "append" ++ note_then e v) ≡ (Some (Append e (length v)), v)
 unfolding line_told by_word bytes_before same_bytes bytes joined spaced append_line spaced_note spaced_rest digits_in
 read-append e v small ok =
     let l = e.lamport in

@@ -1,5 +1,5 @@
 -- Document 01, The listing program, and document 02, P3: which bytes are which command. A place in a line is a number of bytes before it.
-use Rattle.std.specs.Prelude.{◌&&◌, List, [], ◌∷◌, ◌≡◌, ℕ, zero, suc, ◌+◌, ◌^◌, min, ltb, leb, eqb, length, get_or, take}
+use Rattle.std.specs.Prelude.{◌&&◌, List, [], ◌∷◌, Option, Some, None, ◌≡◌, ℕ, zero, suc, ◌+◌, ◌^◌, min, ltb, leb, eqb, length, get_or, take}
 use Rattle.laws.specs.Counting.{pick}
 use Rattle.laws.specs.Lists.{written}
 use Rattle.text.specs.Numbers.{number_at}
@@ -8,20 +8,8 @@ use Rattle.clocks.specs.declared.event.Event.{Event}
 use Rattle.clocks.specs.declared.id.Disambiguator.{Disambiguator}
 use Rattle.clocks.specs.declared.id.Disambiguator.TheVariants.{Absent, Number as number}
 use Rattle.clocks.specs.declared.id.EventId.{EventId}
-use Rattle.text.specs.declared.number.Number.{Number}
-use Rattle.text.specs.declared.number.Number.TheVariants.{Value, Bad}
-use Rattle.listing.specs.declared.fields.Tag.{Tag}
-use Rattle.listing.specs.declared.fields.Tag.TheVariants.{Given, NoTag}
-use Rattle.listing.specs.declared.fields.Named.{Named}
-use Rattle.listing.specs.declared.fields.Named.TheVariants.{Id, NoId}
-use Rattle.listing.specs.declared.fields.Noted.{Noted}
-use Rattle.listing.specs.declared.fields.Noted.TheVariants.{Note, NoNote}
-use Rattle.listing.specs.declared.fields.Vector.{Vector}
-use Rattle.listing.specs.declared.fields.Vector.TheVariants.{Entries, NoVector}
 use Rattle.listing.specs.declared.command.Command.{Command}
 use Rattle.listing.specs.declared.command.Command.TheVariants.{Replicas, Append, Greatest, Check, Advance, Remove, Sheet, Why}
-use Rattle.listing.specs.declared.command.Read.{Read}
-use Rattle.listing.specs.declared.command.Read.TheVariants.{Line, NoLine}
 
 -- at most 512 bytes before the newline
 abbrev pub longest : ℕ
@@ -31,97 +19,85 @@ longest = 512
 abbrev pub most_entries : ℕ
 most_entries = 16
 
--- a number read with the place behind it handed on, or what stands for none
-abbrev pub with_number : {A : Type 0} → Number → A → (ℕ → ℕ → A) → A
-with_number (Value n next) none f = f n next
-with_number Bad none f = none
-
-abbrev pub with_tag : {A : Type 0} → Tag → A → (Disambiguator → ℕ → A) → A
-with_tag (Given d next) none f = f d next
-with_tag NoTag none f = none
-
-abbrev pub with_id : {A : Type 0} → Named → A → (EventId → ℕ → A) → A
-with_id (Id i next) none f = f i next
-with_id NoId none f = none
-
-abbrev pub with_note : {A : Type 0} → Noted → A → (Event → ℕ → A) → A
-with_note (Note e next) none f = f e next
-with_note NoNote none f = none
+-- what was read, with the place behind it, handed on, or what stands for none
+abbrev pub with_read : {A B : Type 0} → Option (B × ℕ) → A → (B → ℕ → A) → A
+with_read (Some r) none f = f r.0 r.1
+with_read None none f = none
 
 -- the number behind a single space, byte 32, at a place
-unfoldable pub spaced_number : List ℕ → ℕ → Number
-spaced_number s at = pick (eqb (get_or s at 0) 32) (number_at s (at + 1)) Bad
+unfoldable pub spaced_number : List ℕ → ℕ → Option (ℕ × ℕ)
+spaced_number s at = pick (eqb (get_or s at 0) 32) (number_at s (at + 1)) None
 
 -- a disambiguator that is a number is below 2^32
-abbrev pub narrowed : Number → Tag
-narrowed n = with_number n NoTag (λ d next. pick (ltb d (2 ^ 32)) (Given (number d) next) NoTag)
+abbrev pub narrowed : Option (ℕ × ℕ) → Option (Disambiguator × ℕ)
+narrowed n = with_read n None (λ d next. pick (ltb d (2 ^ 32)) (Some (number d, next)) None)
 
 -- D behind a single space: `-`, byte 45, is absent
-unfoldable pub spaced_tag : List ℕ → ℕ → Tag
+unfoldable pub spaced_tag : List ℕ → ℕ → Option (Disambiguator × ℕ)
 spaced_tag s at =
-    pick (eqb (get_or s at 0) 32) (pick (eqb (get_or s (at + 1) 0) 45) (Given Absent (at + 2)) (narrowed (number_at s (at + 1)))) NoTag
+    pick (eqb (get_or s at 0) 32) (pick (eqb (get_or s (at + 1) 0) 45) (Some (Absent, at + 2)) (narrowed (number_at s (at + 1)))) None
 
 -- O S D
-unfoldable pub spaced_id : List ℕ → ℕ → Named
+unfoldable pub spaced_id : List ℕ → ℕ → Option (EventId × ℕ)
 spaced_id s at =
-    with_number (spaced_number s at) NoId (λ o behindO.
-    with_number (spaced_number s behindO) NoId (λ q behindS.
-    with_tag (spaced_tag s behindS) NoId (λ d next.
-    Id (record { idx = record { 0 = o }; seq = q; disambiguator = d }) next)))
+    with_read (spaced_number s at) None (λ o behindO.
+    with_read (spaced_number s behindO) None (λ q behindS.
+    with_read (spaced_tag s behindS) None (λ d next.
+    Some (record { idx = record { 0 = o }; seq = q; disambiguator = d }, next))))
 
 -- L P REV behind an id: a revision is below 2^32
-unfoldable pub spaced_rest : List ℕ → ℕ → EventId → Noted
+unfoldable pub spaced_rest : List ℕ → ℕ → EventId → Option (Event × ℕ)
 spaced_rest s at i =
-    with_number (spaced_number s at) NoNote (λ l behindL.
-    with_number (spaced_number s behindL) NoNote (λ p behindP.
-    with_number (spaced_number s behindP) NoNote (λ rev next.
-    pick (ltb rev (2 ^ 32)) (Note (record { id = i; lamport = l; op = p; revision = rev }) next) NoNote)))
+    with_read (spaced_number s at) None (λ l behindL.
+    with_read (spaced_number s behindL) None (λ p behindP.
+    with_read (spaced_number s behindP) None (λ rev next.
+    pick (ltb rev (2 ^ 32)) (Some (record { id = i; lamport = l; op = p; revision = rev }, next)) None)))
 
 -- O S D L P REV
-unfoldable pub spaced_note : List ℕ → ℕ → Noted
-spaced_note s at = with_id (spaced_id s at) NoNote (λ i next. spaced_rest s next i)
+unfoldable pub spaced_note : List ℕ → ℕ → Option (Event × ℕ)
+spaced_note s at = with_read (spaced_id s at) None (λ i next. spaced_rest s next i)
 
 -- the numbers that stand one behind the other from a place on, at most so many
 unfoldable pub entries : ℕ → List ℕ → ℕ → List ℕ
 entries zero s at = []
-entries (suc most) s at = with_number (spaced_number s at) [] (λ n next. n ∷ entries most s next)
+entries (suc most) s at = with_read (spaced_number s at) [] (λ n next. n ∷ entries most s next)
 
 -- the place behind them
 unfoldable pub entries_end : ℕ → List ℕ → ℕ → ℕ
 entries_end zero s at = at
-entries_end (suc most) s at = with_number (spaced_number s at) at (λ n next. entries_end most s next)
+entries_end (suc most) s at = with_read (spaced_number s at) at (λ n next. entries_end most s next)
 
 -- how many entries are read into a buffer of this length
 abbrev pub most : ℕ → ℕ
 most room = min most_entries room
 
 -- a vector up to the line's end: one entry or more, and nothing behind them
-unfoldable pub vector_at : ℕ → List ℕ → ℕ → Vector
+unfoldable pub vector_at : ℕ → List ℕ → ℕ → Option ℕ
 vector_at room s at =
-    pick (ltb 0 (length (entries (most room) s at)) && leb (length s) (entries_end (most room) s at)) (Entries (length (entries (most room) s at))) NoVector
+    pick (ltb 0 (length (entries (most room) s at)) && leb (length s) (entries_end (most room) s at)) (Some (length (entries (most room) s at))) None
 
-abbrev pub with_vector : Vector → (ℕ → Command) → Read
-with_vector (Entries n) make = Line (make n)
-with_vector NoVector make = NoLine
+abbrev pub with_vector : Option ℕ → (ℕ → Command) → Option Command
+with_vector (Some n) make = Some (make n)
+with_vector None make = None
 
 -- what a line says, and the entries that stand in the lent buffer then
 abbrev pub Told : Type 0
-Told = Read × List ℕ
+Told = Option Command × List ℕ
 
 abbrev pub nothing : Told
-nothing = (NoLine, [])
+nothing = (None, [])
 
 -- a word with a number behind it: replicas R, why L
 unfoldable pub numbered_line : (ℕ → Command) → List ℕ → ℕ → Told
-numbered_line make s at = with_number (spaced_number s at) nothing (λ n next. pick (leb (length s) next) (Line (make n), []) nothing)
+numbered_line make s at = with_read (spaced_number s at) nothing (λ n next. pick (leb (length s) next) (Some (make n), []) nothing)
 
 -- remove O S D
 unfoldable pub remove_line : List ℕ → ℕ → Told
-remove_line s at = with_id (spaced_id s at) nothing (λ i next. pick (leb (length s) next) (Line (Remove i), []) nothing)
+remove_line s at = with_read (spaced_id s at) nothing (λ i next. pick (leb (length s) next) (Some (Remove i), []) nothing)
 
 -- sheet
 unfoldable pub sheet_line : List ℕ → ℕ → Told
-sheet_line s at = pick (leb (length s) at) (Line Sheet, []) nothing
+sheet_line s at = pick (leb (length s) at) (Some Sheet, []) nothing
 
 -- a word with a vector behind it: greatest v.., check v.., advance v..
 unfoldable pub vector_line : (ℕ → Command) → ℕ → List ℕ → ℕ → Told
@@ -129,7 +105,7 @@ vector_line make room s at = (with_vector (vector_at room s at) make, entries (m
 
 -- append O S D L P REV v..
 unfoldable pub append_line : ℕ → List ℕ → ℕ → Told
-append_line room s at = with_note (spaced_note s at) nothing (λ e behindNote. vector_line (λ n. Append e n) room s behindNote)
+append_line room s at = with_read (spaced_note s at) nothing (λ e behindNote. vector_line (λ n. Append e n) room s behindNote)
 
 -- by the line's first word
 unfoldable pub by_word : ℕ → List ℕ → List ℕ → Told
@@ -148,6 +124,6 @@ unfoldable pub line_told : ℕ → List ℕ → Told
 line_told room s = pick (ltb longest (length s)) nothing (by_word room s (take (before_space s) s))
 
 -- r and the buffer are what the line says
-pub record Tells (told : Told) (vector vector' : List ℕ) (r : Read) : Type 0 where
+pub record Tells (told : Told) (vector vector' : List ℕ) (r : Option Command) : Type 0 where
   pub command : r ≡ told.0
   pub content : vector' ≡ written told.1 vector

@@ -1,7 +1,7 @@
 -- Text written as pieces, one behind the other: numbers, words, spaces and newlines. Each is put whole or, where it does not fit, not at all.
 use Rattle.std.specs.Prelude.{List, [], ◌∷◌, ◌++◌, ◌≡◌, ℕ, zero, suc}
 use Rattle.text.specs.Numbers.{spelled}
-use Rattle.text.specs.Bytes.{placed, placed_end}
+use Rattle.text.specs.Bytes.{Collected, placed, placed_end, with_put}
 
 -- the buffer with the pieces from a place on
 unfoldable pub laid : List ℕ → ℕ → List (List ℕ) → List ℕ
@@ -42,3 +42,8 @@ spaced (n ∷ ns) = space ∷ spelled n ∷ spaced ns
 -- a line: a number or a word, and numbers behind it
 abbrev pub line_of : List ℕ → List ℕ → List (List ℕ)
 line_of first ns = first ∷ (spaced ns ++ (newline ∷ []))
+
+-- a buffer with the pieces behind what is collected
+abbrev pub with_pieces : Collected → List (List ℕ) → Collected
+with_pieces b [] = b
+with_pieces b (p ∷ ps) = with_pieces (with_put b p) ps

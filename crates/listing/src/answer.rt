@@ -1,149 +1,139 @@
-// Answer lines, written into a lent buffer. Each function hands back the place behind what it wrote.
-ghost use Rattle.std.specs.Prelude.{[], ◌∷◌, ◌++◌, take};
+// Answer lines, put into a lent buffer.
+#![tactic(auto, using(crate::proofs::Laying::pieces_append), unfolding(crate::specs::Laying::spaced))]
+
+ghost use Rattle.std.specs.Prelude.{◌≡◌, ℕ, [], ◌∷◌, ◌++◌, take};
 ghost use Rattle.text.specs.Numbers.{spelled};
-ghost use Rattle.listing.specs.Laying.{Laid, spaced, newline, line_of};
-ghost use Rattle.listing.specs.Answers.{number_line, none_line, greatest_answer, check_answer, advance_answer, count_answer};
+ghost use Rattle.clocks.specs.Refusals.{number_of, number_in};
+ghost use Rattle.graph.specs.Cuts.{found_by};
+ghost use Rattle.graph.specs.Whole.{count_in};
+ghost use Rattle.listing.specs.Laying.{with_pieces, spaced, newline, line_of};
+ghost use Rattle.listing.specs.Answers.{number_line, none_line, greatest_answer, check_answer, advance_told, count_answer};
 
 use clocks::causal_frontier::CausalFrontier;
-use clocks::refusal::ACCEPTED;
+use clocks::refusal::Refusal;
 use clocks::vector::DESKS;
-use graph::{FrontierFound, Told};
-use numbers::smaller;
-use text::bytes::put;
-use text::number::write_number;
-
-pub(super) fn decimal(out: &mut [u8], at: usize, n: usize) -> usize
-    ensures { Laid out.old at (spelled n ∷ []) out.new result }
-{
-    write_number(out, at, n as u64)
-}
+use graph::advance::Advanced;
+use text::buffer::Buffer;
 
 // A number after a space.
-pub(super) fn spaced_decimal(out: &mut [u8], at: usize, n: usize) -> usize
-    ensures { Laid out.old at (spaced (n ∷ [])) out.new result }
+pub(super) fn spaced_decimal<const N: usize>(out: &mut Buffer<N>, n: usize)
+    ensures { out.new ≡ with_pieces out.old (spaced (n ∷ [])) }
 {
-    let at = put(out, at, b" ");
-    decimal(out, at, n)
+    out.put(b" ");
+    out.put_number(n as u64);
 }
 
 // Numbers, each after a space.
-fn spaced_decimals(out: &mut [u8], at: usize, list: &[usize]) -> usize
-    ensures { Laid out.old at (spaced list.now) out.new result }
+fn spaced_decimals<const N: usize>(out: &mut Buffer<N>, list: &[usize])
+    ensures { out.new ≡ with_pieces out.old (spaced list.now) }
 {
-    let mut at = at;
-    for i in 0..list.len() {
-        at = spaced_decimal(out, at, list[i]);
+    for n in list {
+        spaced_decimal(out, *n);
     }
-    at
 }
 
 // The numbers behind a line's first piece, and its end.
-pub(super) fn line_rest(out: &mut [u8], at: usize, list: &[usize]) -> usize
-    ensures { Laid out.old at (spaced list.now ++ (newline ∷ [])) out.new result }
+pub(super) fn line_rest<const N: usize>(out: &mut Buffer<N>, list: &[usize])
+    ensures { out.new ≡ with_pieces out.old (spaced list.now ++ (newline ∷ [])) }
 {
-    let at = spaced_decimals(out, at, list);
-    put(out, at, b"\n")
+    spaced_decimals(out, list);
+    out.put(b"\n");
 }
 
 // A line of numbers.
-pub fn decimal_line(out: &mut [u8], at: usize, first: usize, list: &[usize]) -> usize
-    ensures { Laid out.old at (line_of (spelled first) list.now) out.new result }
+pub fn decimal_line<const N: usize>(out: &mut Buffer<N>, first: usize, list: &[usize])
+    ensures { out.new ≡ with_pieces out.old (line_of (spelled first) list.now) }
 {
-    let at = decimal(out, at, first);
-    line_rest(out, at, list)
+    out.put_number(first as u64);
+    line_rest(out, list);
 }
 
 // A line of a word and numbers.
-pub fn word_line(out: &mut [u8], at: usize, word: &[u8], list: &[usize]) -> usize
-    ensures { Laid out.old at (line_of word.now list.now) out.new result }
+pub fn word_line<const N: usize>(out: &mut Buffer<N>, word: &[u8], list: &[usize])
+    ensures { out.new ≡ with_pieces out.old (line_of word.now list.now) }
 {
-    let at = put(out, at, word);
-    line_rest(out, at, list)
+    out.put(word);
+    line_rest(out, list);
 }
 
 // The number alone.
-pub fn number_line(out: &mut [u8], at: usize, number: usize) -> usize
-    ensures { Laid out.old at (number_line number) out.new result }
+pub fn number_line<const N: usize>(out: &mut Buffer<N>, number: usize)
+    ensures { out.new ≡ with_pieces out.old (number_line number) }
 {
-    let at = decimal(out, at, number);
-    put(out, at, b"\n")
+    decimal_line(out, number, &[]);
+}
+
+// A refusal's number.
+pub(super) fn refusal_line<const N: usize>(out: &mut Buffer<N>, refusal: Refusal)
+    ensures { out.new ≡ with_pieces out.old (number_line (number_of refusal)) }
+{
+    number_line(out, usize::from(refusal));
 }
 
 // 0 and a dash.
-fn none_line(out: &mut [u8], at: usize) -> usize
-    ensures { Laid out.old at none_line out.new result }
+fn none_line<const N: usize>(out: &mut Buffer<N>)
+    ensures { out.new ≡ with_pieces out.old none_line }
 {
-    let at = decimal(out, at, ACCEPTED);
-    let at = put(out, at, b" ");
-    let at = put(out, at, b"-");
-    put(out, at, b"\n")
+    out.put_number(0);
+    out.put(b" ");
+    out.put(b"-");
+    out.put(b"\n");
 }
 
-// 0 and a frontier's entries.
-fn frontier_line(out: &mut [u8], at: usize, f: CausalFrontier) -> usize
-    ensures { Laid out.old at (line_of (spelled 0) (take f.len f.entries)) out.new result }
+// 0, a frontier's entries and what stands behind them.
+fn frontier_line<const N: usize>(out: &mut Buffer<N>, f: CausalFrontier, behind: &[usize])
+    ensures { out.new ≡ with_pieces out.old (line_of (spelled 0) (take f.len f.entries ++ behind.now)) }
 {
     let entries = f.entries();
-    let n = smaller(f.len(), DESKS);
-    decimal_line(out, at, ACCEPTED, &entries[0..n])
+    out.put_number(0);
+    spaced_decimals(out, &entries[..f.len().min(DESKS)]);
+    line_rest(out, behind);
 }
 
 // What `greatest` found.
-pub fn greatest_answer(out: &mut [u8], at: usize, f: FrontierFound) -> usize
-    ensures { Laid out.old at (greatest_answer f) out.new result }
+#[tactic(auto, using(crate::proofs::Laying::nothing_behind), unfolding(crate::specs::Answers::greatest_answer))]
+pub fn greatest_answer<const N: usize>(
+    out: &mut Buffer<N>,
+    found: Result<Option<CausalFrontier>, Refusal>,
+)
+    ensures { (r : ℕ) → out.new ≡ with_pieces out.old (greatest_answer (found_by r found)) }
 {
-    if f.refusal != ACCEPTED {
-        return number_line(out, at, f.refusal);
+    match found {
+        Ok(Some(f)) => frontier_line(out, f, &[]),
+        Ok(None) => none_line(out),
+        Err(refusal) => refusal_line(out, refusal),
     }
-    if f.found {
-        return frontier_line(out, at, f.frontier);
-    }
-    none_line(out, at)
-}
-
-// 0, a frontier's entries and a count.
-fn counted_line(out: &mut [u8], at: usize, f: CausalFrontier, count: usize) -> usize
-    ensures { Laid out.old at (line_of (spelled 0) (take f.len f.entries ++ (count ∷ []))) out.new result }
-{
-    let entries = f.entries();
-    let n = smaller(f.len(), DESKS);
-    let at = decimal(out, at, ACCEPTED);
-    let at = spaced_decimals(out, at, &entries[0..n]);
-    let list = [count];
-    line_rest(out, at, &list)
 }
 
 // What `advance` found, and how many went.
-pub fn advance_answer(out: &mut [u8], at: usize, f: FrontierFound, count: usize) -> usize
-    ensures { Laid out.old at (advance_answer f count) out.new result }
+#[tactic(auto, unfolding(crate::specs::Answers::advance_answer))]
+pub fn advance_answer<const N: usize>(out: &mut Buffer<N>, moved: Result<Option<Advanced>, Refusal>)
+    ensures { (r : ℕ) → out.new ≡ with_pieces out.old (advance_told r moved) }
 {
-    if f.refusal != ACCEPTED {
-        return number_line(out, at, f.refusal);
+    match moved {
+        Ok(Some(a)) => frontier_line(out, a.frontier, &[a.count]),
+        Ok(None) => none_line(out),
+        Err(refusal) => refusal_line(out, refusal),
     }
-    if f.found {
-        return counted_line(out, at, f.frontier, count);
-    }
-    none_line(out, at)
 }
 
 // What `remove` removed.
-pub fn count_answer(out: &mut [u8], at: usize, number: usize, count: usize) -> usize
-    ensures { Laid out.old at (count_answer number count) out.new result }
+#[tactic(auto, unfolding(crate::specs::Answers::count_answer))]
+pub fn count_answer<const N: usize>(out: &mut Buffer<N>, removed: Result<usize, Refusal>)
+    ensures { out.new ≡ with_pieces out.old (count_answer (number_in removed) (count_in removed)) }
 {
-    if number == ACCEPTED {
-        let list = [count];
-        return decimal_line(out, at, ACCEPTED, &list);
+    match removed {
+        Ok(count) => decimal_line(out, 0, &[count]),
+        Err(refusal) => refusal_line(out, refusal),
     }
-    number_line(out, at, number)
 }
 
 // What `check` said.
-pub fn check_answer(out: &mut [u8], at: usize, told: Told) -> usize
-    ensures { Laid out.old at (check_answer told) out.new result }
+pub fn check_answer<const N: usize>(out: &mut Buffer<N>, told: Result<bool, Refusal>)
+    ensures { out.new ≡ with_pieces out.old (check_answer told) }
 {
     match told {
-        Told::Yes => count_answer(out, at, ACCEPTED, 1),
-        Told::No => count_answer(out, at, ACCEPTED, 0),
-        Told::Refused(number) => number_line(out, at, number),
+        Ok(is_critical) => decimal_line(out, 0, &[usize::from(is_critical)]),
+        Err(refusal) => refusal_line(out, refusal),
     }
 }

@@ -1,102 +1,102 @@
 // The answer to `why L`. Document 02, P3.
-ghost use Rattle.std.specs.Prelude.{[]};
+#![tactic(auto, using(crate::proofs::Laying::pieces_append), unfolding(crate::specs::Laying::spaced))]
+
+ghost use Rattle.std.specs.Prelude.{◌≡◌, []};
 ghost use Rattle.graph.specs.Whole.{whole};
 ghost use Rattle.graph.specs.Whys.{chain_of};
-ghost use Rattle.listing.specs.Laying.{Laid};
+ghost use Rattle.listing.specs.Laying.{with_pieces};
 ghost use Rattle.listing.specs.Whys.{cut_line, found_fields, pair_line, numbers_line, lacks_answer, why_answer};
 
-use crate::answer::{decimal, decimal_line, number_line};
-use crate::sheet::{count_of, id_fields};
-use clocks::refusal::ACCEPTED;
-use graph::why::Why;
-use graph::{EventGraph, Found, Pasts, Slots};
+use crate::answer::{decimal_line, refusal_line};
+use crate::sheet::id_fields;
+use clocks::tagged_op::TaggedOp;
+use graph::{EventGraph, Pasts, Slots};
 use positions::NodeIndex;
-use text::bytes::put;
+use text::buffer::Buffer;
 
 // 0 and the word.
-fn cut_line(out: &mut [u8], at: usize) -> usize
-    ensures { Laid out.old at cut_line out.new result }
+#[tactic(auto, unfolding(crate::specs::Words::bytes))]
+fn cut_line<const N: usize>(out: &mut Buffer<N>)
+    ensures { out.new ≡ with_pieces out.old cut_line }
 {
-    let at = decimal(out, at, ACCEPTED);
-    let at = put(out, at, b" ");
-    let at = put(out, at, b"cut");
-    put(out, at, b"\n")
+    out.put_number(0);
+    out.put(b" ");
+    out.put(b"cut");
+    out.put(b"\n");
 }
 
 // The id fields of a position where an event is held.
-fn found_fields(out: &mut [u8], at: usize, found: Found) -> usize
-    ensures { Laid out.old at (found_fields found) out.new result }
+fn found_fields<const N: usize>(out: &mut Buffer<N>, found: Option<TaggedOp>)
+    ensures { out.new ≡ with_pieces out.old (found_fields found) }
 {
-    let Found::Op(e) = found else {
-        return at;
-    };
-    id_fields(out, at, e.id())
+    if let Some(e) = found {
+        id_fields(out, e.id());
+    }
 }
 
 // 0 and six fields, the later id first.
-fn pair_line(out: &mut [u8], at: usize, later: Found, earlier: Found) -> usize
-    ensures { Laid out.old at (pair_line later earlier) out.new result }
+fn pair_line<const N: usize>(
+    out: &mut Buffer<N>,
+    later: Option<TaggedOp>,
+    earlier: Option<TaggedOp>,
+)
+    ensures { out.new ≡ with_pieces out.old (pair_line later earlier) }
 {
-    let at = decimal(out, at, ACCEPTED);
-    let at = put(out, at, b" ");
-    let at = found_fields(out, at, later);
-    let at = put(out, at, b" ");
-    let at = found_fields(out, at, earlier);
-    put(out, at, b"\n")
+    out.put_number(0);
+    out.put(b" ");
+    found_fields(out, later);
+    out.put(b" ");
+    found_fields(out, earlier);
+    out.put(b"\n");
 }
 
 // Numbers with a space between.
-fn numbers_line(out: &mut [u8], at: usize, list: &[usize]) -> usize
-    ensures { Laid out.old at (numbers_line list.now) out.new result }
+fn numbers_line<const N: usize>(out: &mut Buffer<N>, list: &[usize])
+    ensures { out.new ≡ with_pieces out.old (numbers_line list.now) }
 {
-    let n = list.len();
-    if n == 0 {
-        return put(out, at, b"\n");
+    match list {
+        [] => out.put(b"\n"),
+        [first, rest @ ..] => decimal_line(out, *first, rest),
     }
-    decimal_line(out, at, list[0], &list[1..n])
 }
 
 // The chain's positions from one downward; a list of 256 has always room.
-fn chain_line(out: &mut [u8], at: usize, g: EventGraph, i: NodeIndex, pasts: &Pasts) -> usize
-    ensures { Laid out.old at (numbers_line (chain_of (whole g [] pasts.now) i.0)) out.new result }
+fn chain_line<const N: usize>(out: &mut Buffer<N>, g: &EventGraph, i: NodeIndex, pasts: &Pasts)
+    ensures { out.new ≡ with_pieces out.old (numbers_line (chain_of (whole g.now [] pasts.now) i.0)) }
 {
     let mut list = [0usize; 256];
-    let n = count_of(g.chain(i, pasts, &mut list));
-    numbers_line(out, at, &list[0..n])
+    let n = g.chain(i, pasts, &mut list).unwrap_or(0);
+    numbers_line(out, &list[..n]);
 }
 
 // The two ids, and the chain from the later position.
-fn lacks_answer<'a>(
-    out: &mut [u8],
-    at: usize,
-    g: EventGraph,
+fn lacks_answer<'a, const N: usize>(
+    out: &mut Buffer<N>,
+    g: &EventGraph,
     later: NodeIndex,
     earlier: NodeIndex,
     slots: &'a Slots,
     pasts: &'a Pasts,
-) -> usize
-    ensures { Laid out.old at (lacks_answer (whole g slots.now pasts.now) later.0 earlier.0) out.new result }
+)
+    ensures { out.new ≡ with_pieces out.old (lacks_answer (whole g.now slots.now pasts.now) later.0 earlier.0) }
 {
-    let first = g.event_at(later, slots);
-    let second = g.event_at(earlier, slots);
-    let at = pair_line(out, at, first, second);
-    chain_line(out, at, g, later, pasts)
+    pair_line(out, g.event_at(later, slots), g.event_at(earlier, slots));
+    chain_line(out, g, later, pasts);
 }
 
 // Why a length is no cut.
-pub fn why_answer<'a>(
-    out: &mut [u8],
-    at: usize,
-    g: EventGraph,
+pub fn why_answer<'a, const N: usize>(
+    out: &mut Buffer<N>,
+    g: &EventGraph,
     length: usize,
     slots: &'a Slots,
     pasts: &'a Pasts,
-) -> usize
-    ensures { Laid out.old at (why_answer (whole g slots.now pasts.now) length) out.new result }
+)
+    ensures { out.new ≡ with_pieces out.old (why_answer (whole g.now slots.now pasts.now) length) }
 {
     match g.why(length, pasts) {
-        Why::Cut => cut_line(out, at),
-        Why::Lacks(later, earlier) => lacks_answer(out, at, g, later, earlier, slots, pasts),
-        Why::Refused(number) => number_line(out, at, number),
+        Ok(None) => cut_line(out),
+        Ok(Some(lack)) => lacks_answer(out, g, lack.later, lack.earlier, slots, pasts),
+        Err(refusal) => refusal_line(out, refusal),
     }
 }

@@ -22,8 +22,7 @@ use Rattle.history.proofs.Raises.{widen-history-cases}
 use Rattle.observation.specs.Reached.{Versions, none, with_version, Reached, created, append, remove, prune, retain, raise, clear}
 use Rattle.clocks.specs.declared.event.Event.{Event}
 use Rattle.clocks.specs.declared.id.EventId.{EventId}
-use Rattle.history.specs.declared.event_history.Removed.{Removed}
-use Rattle.history.specs.declared.event_history.PruneAnswer.{PruneAnswer}
+use Rattle.history.specs.Answers.{Removed, PruneAnswer}
 use Rattle.observation.proofs.CarriedAppends.{with-replica, with-sequence}
 use Rattle.observation.proofs.Kept.{reached-kept}
 use Rattle.observation.proofs.Held.{own-entry}

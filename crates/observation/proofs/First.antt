@@ -10,6 +10,7 @@ use native.Mathlib.Decide.{ℕ_discrete}
 use native.Mathlib.Omega.{arith}
 use lib.Dec.{leb}
 use borrow.Author.Tests.{leb-true, le-leb, lt-ltb, le-ltb}
+use Rattle.std.proofs.Common.{Some}
 use Rattle.laws.proofs.Orders.{le-or-lt, true-or-false}
 use Rattle.clocks.specs.Vectors.{desks, entry, covers}
 use Rattle.clocks.proofs.Vectors.{covers-intro, covers-elim}
@@ -26,7 +27,6 @@ use Rattle.observation.specs.Reached.{Versions, Reached}
 use Rattle.observation.specs.Observation.{NewlyObserves}
 use Rattle.observation.specs.First.{Observes, IsFirst, TellsFirst}
 use Rattle.clocks.specs.declared.id.EventId.{EventId}
-use Rattle.history.specs.declared.event_history.Found.TheVariants.{Op}
 use Rattle.history.specs.declared.event_history.FirstObserver.{FirstObserver}
 use Rattle.history.specs.declared.event_history.FirstObserver.TheVariants.{NoneYet, Pruned}
 use Rattle.observation.proofs.Carried.{known}
@@ -36,7 +36,7 @@ use Rattle.observation.proofs.Next.{First, one, no_one, first_of, next-own-is, n
 use Rattle.observation.proofs.Accepted.{accepted-range, accepted-some}
 use Rattle.observation.proofs.FirstAnswers.{Which, kept, gone, unseen, tells, observes-past, past-observes}
 
-event-held : (h : EventHistory) (notes : List ℕ) (r s : ℕ) → held h r s ≡ true → event_of h notes r s ≡ Op (note_at h notes r s)
+event-held : (h : EventHistory) (notes : List ℕ) (r s : ℕ) → held h r s ≡ true → event_of h notes r s ≡ Some (note_at h notes r s)
 unfolding event_of
 event-held h notes r s e = rw e
 

@@ -6,6 +6,7 @@ use Prim.Native.Nat.{ℕ, ◌+◌, ◌*◌, ◌<◌, ◌≤◌}
 use native.Mathlib.Nat.{min-le_right}
 use native.Mathlib.Omega.{arith}
 use lib.Dec.{leb, eqb}
+use Rattle.std.proofs.Common.{Some}
 use Rattle.laws.specs.Counting.{sum_below}
 use Rattle.clocks.specs.Vectors.{desks, entry}
 use Rattle.history.specs.Tables.{row_of, padded, note_at}
@@ -19,7 +20,6 @@ use Rattle.history.proofs.Free.{full-exact, one-most, all_most}
 use Rattle.history.proofs.Notes.{row-once, event-at-row}
 use Rattle.history.specs.Whole.{EventHistory}
 use Rattle.observation.specs.Reached.{Versions, Reached}
-use Rattle.history.specs.declared.event_history.Found.TheVariants.{Op}
 use Rattle.observation.proofs.Kept.{reached-kept}
 
 module _ {h : EventHistory} {versions notes boundaries : List ℕ} {W : Versions} {accepted gone : ℕ} (w : Reached h versions notes boundaries W accepted gone) where
@@ -59,7 +59,7 @@ module _ {h : EventHistory} {versions notes boundaries : List ℕ} {W : Versions
   held-balance = omega (arith, count-is, count-balance)
 
   -- the row of a retained event, which lists name, is its own, and `event_at` gives the event there
-  pub event-at-is : (r s : ℕ) → held h r s ≡ true → event_at h notes (row_of h r s) ≡ Op (note_at h notes r s)
+  pub event-at-is : (r s : ℕ) → held h r s ≡ true → event_at h notes (row_of h r s) ≡ Some (note_at h notes r s)
   event-at-is r s e = event-at-row h notes r s (reached-kept w).owned e
 
   pub rows_apart : (r s q t : ℕ) → held h r s ≡ true → held h q t ≡ true → row_of h r s ≡ row_of h q t → (r ≡ q) × (s ≡ t)

@@ -8,6 +8,7 @@ use native.Mathlib.Nat.{le_antisymm}
 use native.Mathlib.Decide.{ℕ_discrete}
 use native.Mathlib.Omega.{arith}
 use borrow.Author.Tests.{eq-eqb, ne_eqb}
+use Rattle.std.proofs.Common.{None}
 use Rattle.laws.specs.Counting.{first_below}
 use Rattle.laws.proofs.Orders.{le-or-lt, true-or-false}
 use Rattle.laws.proofs.Searching.{first-none, first-at}
@@ -20,7 +21,6 @@ use Rattle.history.specs.Whole.{EventHistory}
 use Rattle.observation.specs.Reached.{Versions, Reached}
 use Rattle.observation.specs.Observation.{InPast, IsNext, TellsNext}
 use Rattle.clocks.specs.declared.id.EventId.{EventId}
-use Rattle.history.specs.declared.event_history.Found.TheVariants.{Nothing}
 use Rattle.observation.proofs.Carried.{known, not-held}
 use Rattle.observation.proofs.Kept.{reached-kept}
 use Rattle.observation.proofs.Held.{row-entry, own-entry}
@@ -37,7 +37,7 @@ unfolding next_of
 next-other-is h notes versions id q z = rw (ne_eqb q id.idx.0 z)
 
 -- of the own replica, where the event after it is pruned, nothing
-pub next-own-pruned : (h : EventHistory) (notes versions : List ℕ) (id : EventId) → id.seq < pruned_of h id.idx.0 → next_of h notes versions id id.idx.0 ≡ Nothing
+pub next-own-pruned : (h : EventHistory) (notes versions : List ℕ) (id : EventId) → id.seq < pruned_of h id.idx.0 → next_of h notes versions id id.idx.0 ≡ None
 unfolding event_of
 next-own-pruned h notes versions id l = next-own-is h notes versions id ∙ rw (not-held h id.idx.0 (id.seq + 1) (omega arith))
 
@@ -154,9 +154,9 @@ module _ {h : EventHistory} {versions notes boundaries : List ℕ} {W : Versions
       ))
       (le-or-lt (last_of h r) s)
 
-  -- where more than that is pruned the answer is Nothing, though the first retained event has the event in its past
+  -- where more than that is pruned the answer is None, though the first retained event has the event in its past
   pub next-own-hidden : 1 ≤ id.seq → id.seq < pruned_of h id.idx.0 → pruned_of h id.idx.0 < last_of h id.idx.0
-      → IsNext h W id.idx.0 id.seq id.idx.0 (pruned_of h id.idx.0 + 1) × (next_of h notes versions id id.idx.0 ≡ Nothing)
+      → IsNext h W id.idx.0 id.seq id.idx.0 (pruned_of h id.idx.0 + 1) × (next_of h notes versions id id.idx.0 ≡ None)
   next-own-hidden l m p = (
     own_first l (pruned_of h r + 1) (omega arith) (held-is h r (pruned_of h r + 1) (known h (reached-kept w).ok r (omega arith)) (omega arith) (omega arith))
         (λ u k x. omega (arith, (held_tells h r u k).1)),

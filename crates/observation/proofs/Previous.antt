@@ -8,6 +8,7 @@ use native.Mathlib.Nat.{le_antisymm}
 use native.Mathlib.Decide.{ℕ_discrete}
 use native.Mathlib.Omega.{arith}
 use borrow.Author.Tests.{eq-eqb, ne_eqb}
+use Rattle.std.proofs.Common.{None}
 use Rattle.laws.proofs.Orders.{le-or-lt, le-but}
 use Rattle.clocks.specs.Vectors.{entry}
 use Rattle.history.specs.Traces.{last_of, event_of, holds, version_row}
@@ -17,7 +18,6 @@ use Rattle.history.specs.Whole.{EventHistory}
 use Rattle.observation.specs.Reached.{Versions, Reached}
 use Rattle.observation.specs.Observation.{IsPrevious}
 use Rattle.clocks.specs.declared.id.EventId.{EventId}
-use Rattle.history.specs.declared.event_history.Found.TheVariants.{Nothing}
 use Rattle.observation.proofs.Held.{row-entry, own-entry}
 
 -- ---- the answer by its cases, on any history
@@ -34,7 +34,7 @@ previous-other h notes versions id q z e = rw (ne_eqb q id.idx.0 z, e)
 
 -- of another replica nothing is told where the very id is not held
 pub previous-unheld : (h : EventHistory) (notes versions : List ℕ) (id : EventId) (q : ℕ) → (q ≡ id.idx.0 → ⊥) → holds h notes id ≡ false
-    → previous_of h notes versions id q ≡ Nothing
+    → previous_of h notes versions id q ≡ None
 unfolding previous_of
 previous-unheld h notes versions id q z e = rw (ne_eqb q id.idx.0 z, e)
 

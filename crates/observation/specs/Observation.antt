@@ -1,13 +1,12 @@
 -- What it says of two events that one observes the other, told by the versions alone, whether the events are still retained or not; and what that makes
 -- of `previous`, `next` and `newly_observed_by`. An event is a replica and a sequence; W gives the version that each was accepted with.
-use Rattle.std.specs.Prelude.{true, List, ◌⊎◌, ◌≡◌, ℕ, ◌<◌, ◌≤◌}
+use Rattle.std.specs.Prelude.{true, List, Option, None, ◌⊎◌, ◌≡◌, ℕ, ◌<◌, ◌≤◌}
 use Rattle.clocks.specs.Vectors.{entry}
 use Rattle.history.specs.Tables.{row_of}
 use Rattle.history.specs.Traces.{held, event_of}
 use Rattle.observation.specs.Reached.{Versions}
 use Rattle.history.specs.Whole.{EventHistory}
-use Rattle.history.specs.declared.event_history.Found.{Found}
-use Rattle.history.specs.declared.event_history.Found.TheVariants.{Nothing}
+use Rattle.clocks.specs.declared.tagged_op.TaggedOp.{TaggedOp}
 
 -- event (q,t) is strictly in the past of event (r,s): it is one, the version of (r,s) covers it, and it is another one
 pub record InPast (W : Versions) (r s q t : ℕ) : Type 0 where
@@ -32,9 +31,9 @@ pub record IsNext (h : EventHistory) (W : Versions) (r s q t : ℕ) : Type 0 whe
 abbrev pub NoNext : EventHistory → Versions → ℕ → ℕ → ℕ → Type 0
 NoNext h W r s q = (u : ℕ) → held h q u ≡ true → InPast W q u r s → ⊥
 
--- the answer is the first retained event of q with (r,s) in its past, and Nothing where there is none
-abbrev pub TellsNext : EventHistory → List ℕ → Versions → ℕ → ℕ → ℕ → Found → Type 0
-TellsNext h notes W r s q f = ((t : ℕ) × IsNext h W r s q t × (f ≡ event_of h notes q t)) ⊎ (NoNext h W r s q × (f ≡ Nothing))
+-- the answer is the first retained event of q with (r,s) in its past, and None where there is none
+abbrev pub TellsNext : EventHistory → List ℕ → Versions → ℕ → ℕ → ℕ → Option TaggedOp → Type 0
+TellsNext h notes W r s q f = ((t : ℕ) × IsNext h W r s q t × (f ≡ event_of h notes q t)) ⊎ (NoNext h W r s q × (f ≡ None))
 
 -- (q,t) is strictly in the past of (r,s), and of no earlier event of r. The Rust: "`newly_observed_by(e)` returns the set of event ids `v` for which `e`
 -- is the first event issued by `r` that has `v` in its causal past."

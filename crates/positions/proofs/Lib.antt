@@ -6,3 +6,4 @@ pub mod Bits
 pub mod Words
 pub mod Marks
 pub mod Rounds
+pub mod Made

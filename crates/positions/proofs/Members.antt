@@ -9,6 +9,7 @@ use lib.ListN.{get_or, length}
 use lib.Seq.{ext_get_or}
 use lib.Dec.{ltb, lit<}
 use lib.Bits.{bit_or}
+use Rattle.std.specs.Prelude.{Option, Some, None}
 use borrow.Author.Tests.{lt-ltb, le-ltb}
 use mir.Val.{Fits}
 use mir.Syntax.{w64}
@@ -17,8 +18,7 @@ use Rattle.laws.proofs.Orders.{le-or-lt, bool_iff, and_both, imp_or, or-imp}
 use Rattle.laws.proofs.Counting.{all-intro, all-elim}
 use Rattle.positions.specs.Members.{has, Words, Subset, IsHighest}
 use Rattle.positions.specs.declared.Positions.{Positions}
-use Rattle.positions.specs.declared.Highest.{Highest}
-use Rattle.positions.specs.declared.Highest.TheVariants.{At, Nothing}
+use Rattle.positions.specs.declared.NodeIndex.{NodeIndex}
 use Rattle.positions.proofs.Bits.{bit-ext}
 use Rattle.positions.proofs.Words.{has-out, has-at, none}
 
@@ -62,8 +62,8 @@ subset-law p q r sound complete = record { exact = exact; sound = sound; complet
         (λ e. complete (λ k h. or-imp (has p k) (has q k) (all-elim (λ k. not (has p k) || has q k) 256 e k (has-small p k h)) h))
 
 -- the greatest of the members below n is the greatest member below n
-pub highest-law : (p q : Positions) (n : ℕ) → ((k : ℕ) → has q k ≡ (has p k && ltb k n)) → (r : Highest) → IsHighest q 256 r → IsHighest p n r
-highest-law p q n h (At i) z =
+pub highest-law : (p q : Positions) (n : ℕ) → ((k : ℕ) → has q k ≡ (has p k && ltb k n)) → (r : Option NodeIndex) → IsHighest q 256 r → IsHighest p n r
+highest-law p q n h (Some i) z =
     let k = i.0 in
     let b = and_both (has p k) (ltb k n) (sym (h k) ∙ z.inside) in
     record {
@@ -75,4 +75,4 @@ highest-law p q n h (At i) z =
   where
     gone : (p q : Positions) (n : ℕ) → ((k : ℕ) → has q k ≡ (has p k && ltb k n)) → (m : ℕ) → m < n → has q m ≡ false → has p m ≡ false
     gone p q n h m o e = sym (and-true (has p m)) ∙ rw (lt-ltb m n o) at (sym (h m) ∙ e)
-highest-law p q n h Nothing z = λ k l. sym (and-true (has p k)) ∙ rw (lt-ltb k n l) at (sym (h k) ∙ ⊎_elim (λ (s : 256 ≤ k). has-out q k s) (λ (s : k < 256). z k s) (le-or-lt 256 k))
+highest-law p q n h None z = λ k l. sym (and-true (has p k)) ∙ rw (lt-ltb k n l) at (sym (h k) ∙ ⊎_elim (λ (s : 256 ≤ k). has-out q k s) (λ (s : k < 256). z k s) (le-or-lt 256 k))

@@ -47,12 +47,12 @@ has_word p j k l h =
     (λ (q : j < 4). has-at p j k q h) (le-or-lt 4 j)
 
 -- to know a set, look at each word's bits
-pub by-words : (p : Positions) (F : ℕ → Bool) → ((j k : ℕ) → j < 4 → k < 64 → bit (get_or p.words j 0) k ≡ F (64 * j + k))
+pub by-words : (p : Positions) (F : ℕ → Bool) → ((j : ℕ) → j < 4 → (k : ℕ) → k < 64 → bit (get_or p.words j 0) k ≡ F (64 * j + k))
     → ((k : ℕ) → 256 ≤ k → F k ≡ false) → (k : ℕ) → has p k ≡ F k
 by-words p F h out k = ⊎_elim (λ (q : 256 ≤ k). has-out p k q ∙ sym (out k q)) inside (le-or-lt 256 k)
   where
     inside : k < 256 → has p k ≡ F k
-    inside q = ap (has p) (split-64 k) ∙ has-at p (k / 64) (k % 64) (omega arith) (omega arith) ∙ h (k / 64) (k % 64) (omega arith) (omega arith) ∙ ap F (sym (split-64 k))
+    inside q = ap (has p) (split-64 k) ∙ has-at p (k / 64) (k % 64) (omega arith) (omega arith) ∙ h (k / 64) (omega arith) (k % 64) (omega arith) ∙ ap F (sym (split-64 k))
 
 -- a set whose four words are given
 pub four : (w0 w1 w2 w3 : ℕ) (F : ℕ → Bool) → ((k : ℕ) → k < 64 → bit w0 k ≡ F k) → ((k : ℕ) → k < 64 → bit w1 k ≡ F (64 + k))
@@ -60,27 +60,19 @@ pub four : (w0 w1 w2 w3 : ℕ) (F : ℕ → Bool) → ((k : ℕ) → k < 64 → 
     → (k : ℕ) → has (record { words = w0 ∷ w1 ∷ w2 ∷ w3 ∷ [] }) k ≡ F k
 four w0 w1 w2 w3 F h0 h1 h2 h3 out = by-words (record { words = w0 ∷ w1 ∷ w2 ∷ w3 ∷ [] }) F each out
   where
-    each : (j k : ℕ) → j < 4 → k < 64 → bit (get_or (w0 ∷ w1 ∷ w2 ∷ w3 ∷ []) j 0) k ≡ F (64 * j + k)
-    each zero k q p = rw zero-add (h0 k p)
-    each (suc zero) k q p = h1 k p
-    each (suc (suc zero)) k q p = h2 k p
-    each (suc (suc (suc zero))) k q p = h3 k p
-    each (suc (suc (suc (suc j)))) k q p = absurd (omega arith)
+    each : (j : ℕ) → j < 4 → (k : ℕ) → k < 64 → bit (get_or (w0 ∷ w1 ∷ w2 ∷ w3 ∷ []) j 0) k ≡ F (64 * j + k)
+    each zero q k p = rw zero-add (h0 k p)
+    each (suc zero) q k p = h1 k p
+    each (suc (suc zero)) q k p = h2 k p
+    each (suc (suc (suc zero))) q k p = h3 k p
+    each (suc (suc (suc (suc j)))) q k p = absurd (omega arith)
 
 -- a set made of two, word by word
-pub four₂ : (f : Bool → Bool → Bool) (a b : Positions) → f false false ≡ false → (w0 w1 w2 w3 : ℕ)
-    → ((k : ℕ) → k < 64 → bit w0 k ≡ f (bit (get_or a.words 0 0) k) (bit (get_or b.words 0 0) k))
-    → ((k : ℕ) → k < 64 → bit w1 k ≡ f (bit (get_or a.words 1 0) k) (bit (get_or b.words 1 0) k))
-    → ((k : ℕ) → k < 64 → bit w2 k ≡ f (bit (get_or a.words 2 0) k) (bit (get_or b.words 2 0) k))
-    → ((k : ℕ) → k < 64 → bit w3 k ≡ f (bit (get_or a.words 3 0) k) (bit (get_or b.words 3 0) k))
-    → (k : ℕ) → has (record { words = w0 ∷ w1 ∷ w2 ∷ w3 ∷ [] }) k ≡ f (has a k) (has b k)
-four₂ f a b z w0 w1 w2 w3 h0 h1 h2 h3 =
-    four w0 w1 w2 w3 (λ (k : ℕ). f (has a k) (has b k))
-    (λ k p. rw (has_first a k p, has_first b k p) (h0 k p))
-    (λ k p. rw (has-at a 1 k (lit< tt) p, has-at b 1 k (lit< tt) p) (h1 k p))
-    (λ k p. rw (has-at a 2 k (lit< tt) p, has-at b 2 k (lit< tt) p) (h2 k p))
-    (λ k p. rw (has-at a 3 k (lit< tt) p, has-at b 3 k (lit< tt) p) (h3 k p))
-    (λ k p. rw (has-out a k p, has-out b k p) z)
+pub by-two : (f : Bool → Bool → Bool) (a b r : Positions) → f false false ≡ false
+    → ((j : ℕ) → j < 4 → (k : ℕ) → k < 64 → bit (get_or r.words j 0) k ≡ f (bit (get_or a.words j 0) k) (bit (get_or b.words j 0) k))
+    → (k : ℕ) → has r k ≡ f (has a k) (has b k)
+by-two f a b r z h =
+    by-words r (λ (k : ℕ). f (has a k) (has b k)) (λ j l k p. h j l k p ∙ sym (rw (has-at a j k l p, has-at b j k l p))) (λ k p. rw (has-out a k p, has-out b k p) z)
 
 pub none : (k : ℕ) → has (record { words = 0 ∷ 0 ∷ 0 ∷ 0 ∷ [] }) k ≡ false
 none = four 0 0 0 0 (λ (k : ℕ). false) (λ k p. bit-zero k) (λ k p. bit-zero k) (λ k p. bit-zero k) (λ k p. bit-zero k) (λ k p. refl)
@@ -130,12 +122,12 @@ zero-all p e = by-words p (λ (k : ℕ). false) each (λ k q. refl)
     all : (k : ℕ) → (bit (get_or p.words 0 0) k ≡ false) × (bit (get_or p.words 1 0) k ≡ false) × (bit (get_or p.words 2 0) k ≡ false) × (bit (get_or p.words 3 0) k ≡ false)
     all k = or4 (bit (get_or p.words 0 0) k) (bit (get_or p.words 1 0) k) (bit (get_or p.words 2 0) k) (bit (get_or p.words 3 0) k) (rw (← bit-or, ← bit-or, ← bit-or, e) (bit-zero k))
 
-    each : (j k : ℕ) → j < 4 → k < 64 → bit (get_or p.words j 0) k ≡ false
-    each zero k q h = (all k).0
-    each (suc zero) k q h = (all k).1
-    each (suc (suc zero)) k q h = (all k).2
-    each (suc (suc (suc zero))) k q h = (all k).3
-    each (suc (suc (suc (suc j)))) k q h = absurd (omega arith)
+    each : (j : ℕ) → j < 4 → (k : ℕ) → k < 64 → bit (get_or p.words j 0) k ≡ false
+    each zero q k h = (all k).0
+    each (suc zero) q k h = (all k).1
+    each (suc (suc zero)) q k h = (all k).2
+    each (suc (suc (suc zero))) q k h = (all k).3
+    each (suc (suc (suc (suc j)))) q k h = absurd (omega arith)
 
 -- ---- how many members, word by word
 pub count-four : (p : Positions) → count_below (has p) 256
@@ -158,17 +150,15 @@ module _ (p : Positions) (j r : ℕ) (l : j < 4) (z : LowZero (get_or p.words j 
           let e : i ≡ 64 * j + (i - 64 * j) = omega arith in
           rw e (has-at p j (i - 64 * j) l (omega (arith, z.most)) ∙ z.before (i - 64 * j) (omega arith))
 
-  pub full-word : 64 ≤ r → (i : ℕ) → i < 64 * suc j → has p i ≡ true
+  pub full-word : 64 ≤ r → (i : ℕ) → i < 64 * (j + 1) → has p i ≡ true
   full-word q i m = full-to i (omega arith)
 
   pub missing_at : r < 64 → FirstMissing p (64 * j + r)
   missing_at q = record { most = omega arith; before = full-to; missing = has-at p j r l q ∙ z.clear q }
 
-  -- in the last word, where no later one can have it
-  pub missing-last : j ≡ 3 → FirstMissing p (64 * j + r)
-  missing-last e =
-      ⊎_elim (λ (q : 64 ≤ r). record { most = omega (arith, z.most); before = full-to; missing = has-out p (64 * j + r) (omega arith) })
-      (λ (q : r < 64). missing_at q) (le-or-lt 64 r)
+-- where all words are full, no position has it
+pub missing_none : (p : Positions) → ((i : ℕ) → i < 256 → has p i ≡ true) → FirstMissing p 256
+missing_none p h = record { most = omega arith; before = h; missing = has-out p 256 (omega arith) }
 
 -- ---- the highest: the words above the word j are empty
 module _ (p : Positions) (j l : ℕ) (m : j < 4) (z : BitLength (get_or p.words j 0) l) (h : (i : ℕ) → 64 * j + 64 ≤ i → has p i ≡ false) where
@@ -198,7 +188,7 @@ pub less-below : (n k j : ℕ) {r : ℕ} → r ≡ n - k → ltb j r ≡ ltb (k 
 less-below n k j {r} e = ltb_iff j r (k + j) n (λ p. omega arith) (λ p. omega arith)
 
 -- ---- down by n: the word j of the result starts at bit n % 64 of the word n / 64 + j
-pub lowered-at : (p : Positions) (n j v w r : ℕ) → length p.words ≡ 4 → v ≡ get_or p.words (n / 64 + j) 0 → w ≡ get_or p.words (n / 64 + suc j) 0
+pub lowered-at : (p : Positions) (n j v w r : ℕ) → length p.words ≡ 4 → v ≡ get_or p.words (n / 64 + j) 0 → w ≡ get_or p.words (n / 64 + j + 1) 0
     → r ≡ joined_words v w (n % 64) → v < 2 ^ 64 → (k : ℕ) → k < 64 → bit r k ≡ has p ((64 * j + k) + n)
 lowered-at p n j v w r l ev ew z f k h = ⊎_elim far near (le-or-lt 64 (k + n % 64))
   where
@@ -209,5 +199,5 @@ lowered-at p n j v w r l ev ew z f k h = ⊎_elim far near (le-or-lt 64 (k + n %
 
     far : 64 ≤ k + n % 64 → bit r k ≡ has p ((64 * j + k) + n)
     far q =
-        let e : (64 * j + k) + n ≡ 64 * (n / 64 + suc j) + ((k + n % 64) - 64) = omega arith in
-        ap (λ (x : ℕ). bit x k) z ∙ joined-far v w (n % 64) k f h q ∙ rw (e, ew) (sym (has_word p (n / 64 + suc j) ((k + n % 64) - 64) l (omega arith)))
+        let e : (64 * j + k) + n ≡ 64 * (n / 64 + j + 1) + ((k + n % 64) - 64) = omega arith in
+        ap (λ (x : ℕ). bit x k) z ∙ joined-far v w (n % 64) k f h q ∙ rw (e, ew) (sym (has_word p (n / 64 + j + 1) ((k + n % 64) - 64) l (omega arith)))

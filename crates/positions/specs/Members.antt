@@ -1,11 +1,10 @@
 -- Sets of positions, as four words of 64 bits: bit k of word w stands for the position 64 * w + k.
-use Rattle.std.specs.Prelude.{Bool, true, false, ◌&&◌, ◌||◌, not, List, ◌≡◌, ℕ, zero, suc, ◌+◌, ◌*◌, ◌/◌, ◌%◌, ◌^◌, ◌<◌, ◌≤◌, get_or, length, ltb}
+use Rattle.std.specs.Prelude.{Bool, true, false, ◌&&◌, ◌||◌, not, List, ◌≡◌, ℕ, zero, suc, ◌+◌, ◌*◌, ◌/◌, ◌%◌, ◌^◌, ◌<◌, ◌≤◌, Option, Some, None, get_or, length, ltb}
 use Rattle.positions.specs.Bits.{bit}
 use Rattle.laws.specs.Counting.{one, all_below}
 use Rattle.laws.specs.Lists.{tabulate}
 use Rattle.positions.specs.declared.Positions.{Positions}
-use Rattle.positions.specs.declared.Highest.{Highest}
-use Rattle.positions.specs.declared.Highest.TheVariants.{At, Nothing}
+use Rattle.positions.specs.declared.NodeIndex.{NodeIndex}
 
 -- the position k is in the set p; no position from 256 on is
 unfoldable pub has : Positions → ℕ → Bool
@@ -45,6 +44,6 @@ pub record HighestAt (p : Positions) (n i : ℕ) : Type 0 where
   pub above : (k : ℕ) → i < k → k < n → has p k ≡ false
 
 -- the greatest member of p below n, where there is one
-abbrev pub IsHighest : Positions → ℕ → Highest → Type 0
-IsHighest p n (At i) = HighestAt p n i.0
-IsHighest p n Nothing = (k : ℕ) → k < n → has p k ≡ false
+abbrev pub IsHighest : Positions → ℕ → Option NodeIndex → Type 0
+IsHighest p n (Some i) = HighestAt p n i.0
+IsHighest p n None = (k : ℕ) → k < n → has p k ≡ false

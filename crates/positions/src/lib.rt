@@ -6,26 +6,20 @@ ghost use Rattle.std.specs.Prelude.{◌≡◌, false, not, ◌&&◌, ◌||◌, �
 ghost use Rattle.laws.specs.Counting.{count_below};
 ghost use Rattle.positions.specs.Members.{has, FirstMissing, Subset, IsHighest};
 
-use numbers::{joined, less};
+use numbers::joined;
+use std::array;
 
 mod plan;
 mod word;
 
 // A position in a graph.
-#[derive(Clone, Copy)]
+#[derive(Clone, Copy, Debug, PartialEq, Eq, PartialOrd, Ord)]
 pub struct NodeIndex(pub usize);
 
 // Bit `k` of word `w` stands for the position 64 * w + k.
-#[derive(Clone, Copy)]
+#[derive(Clone, Copy, Debug, PartialEq, Eq)]
 pub struct Positions {
     words: [u64; 4],
-}
-
-// What a search for the greatest member answers.
-#[derive(Clone, Copy)]
-pub enum Highest {
-    At(NodeIndex),
-    Nothing,
 }
 
 // A keep set made ready to compact many sets: four words of marks for each of eight rounds.
@@ -64,14 +58,12 @@ impl Positions {
         self.words
     }
 
-    pub fn contains(self, i: NodeIndex) -> bool
-        ensures { result ≡ has self i.0 }
+    pub fn contains(&self, i: NodeIndex) -> bool
+        ensures { result ≡ has self.now i.0 }
     {
         let k = i.0;
-        let ws = self.words;
         if k < 256 {
-            let w = ws[k / 64];
-            (w >> (k % 64)) & 1 == 1
+            (self.words[k / 64] >> (k % 64)) & 1 == 1
         } else {
             false
         }
@@ -92,99 +84,70 @@ impl Positions {
     pub fn union(self, other: Positions) -> Positions
         ensures { (k : ℕ) → has result k ≡ (has self k || has other k) }
     {
-        let a = self.words;
-        let b = other.words;
         Positions {
-            words: [a[0] | b[0], a[1] | b[1], a[2] | b[2], a[3] | b[3]],
+            words: array::from_fn(|j| self.words[j] | other.words[j]),
         }
     }
 
     pub fn intersection(self, other: Positions) -> Positions
         ensures { (k : ℕ) → has result k ≡ (has self k && has other k) }
     {
-        let a = self.words;
-        let b = other.words;
         Positions {
-            words: [a[0] & b[0], a[1] & b[1], a[2] & b[2], a[3] & b[3]],
+            words: array::from_fn(|j| self.words[j] & other.words[j]),
         }
     }
 
     pub fn without(self, other: Positions) -> Positions
         ensures { (k : ℕ) → has result k ≡ (has self k && not (has other k)) }
     {
-        let a = self.words;
-        let b = other.words;
         Positions {
-            words: [
-                word::without(a[0], b[0]),
-                word::without(a[1], b[1]),
-                word::without(a[2], b[2]),
-                word::without(a[3], b[3]),
-            ],
+            words: array::from_fn(|j| word::without(self.words[j], other.words[j])),
         }
     }
 
     pub fn is_subset(self, other: Positions) -> bool
         ensures { Subset self other result }
     {
-        let rest = self.without(other);
-        let d = rest.words;
-        d[0] | d[1] | d[2] | d[3] == 0
+        self.without(other) == Positions::empty()
     }
 
     // How many members there are.
     pub fn size(self) -> usize
         ensures { result ≡ count_below (has self) 256 }
     {
+        // Written out: `map` and `sum` ask for the bound of a sum that the sizes of four counts do not give them.
         let a = self.words;
         word::ones(a[0]) + word::ones(a[1]) + word::ones(a[2]) + word::ones(a[3])
     }
 
-    // The least position that is no member, 256 where all are members.
+    // The least position that is no member, 256 where all are members: a length, which callers compare and cut with.
     pub fn first_missing(self) -> usize
         ensures { FirstMissing self result }
     {
-        let a = self.words;
-        let z = word::low_zero(a[0]);
-        if z < 64 {
-            return z;
+        for (j, w) in self.words.iter().enumerate() {
+            let z = word::low_zero(*w);
+            if z < 64 {
+                return 64 * j + z;
+            }
         }
-        let z = word::low_zero(a[1]);
-        if z < 64 {
-            return 64 + z;
-        }
-        let z = word::low_zero(a[2]);
-        if z < 64 {
-            return 128 + z;
-        }
-        192 + word::low_zero(a[3])
+        256
     }
 
-    fn highest(self) -> Highest
+    // The greatest member.
+    fn highest(self) -> Option<NodeIndex>
         ensures { IsHighest self 256 result }
     {
-        let a = self.words;
-        let l = word::bit_length(a[3]);
-        if 0 < l {
-            return Highest::At(NodeIndex(191 + l));
+        for (j, w) in self.words.iter().enumerate().rev() {
+            let l = word::bit_length(*w);
+            if 0 < l {
+                return Some(NodeIndex(64 * j + l - 1));
+            }
         }
-        let l = word::bit_length(a[2]);
-        if 0 < l {
-            return Highest::At(NodeIndex(127 + l));
-        }
-        let l = word::bit_length(a[1]);
-        if 0 < l {
-            return Highest::At(NodeIndex(63 + l));
-        }
-        let l = word::bit_length(a[0]);
-        if 0 < l {
-            return Highest::At(NodeIndex(l - 1));
-        }
-        Highest::Nothing
+        None
     }
 
     // The greatest member below `n`.
-    pub fn highest_below(self, n: usize) -> Highest
+    pub fn highest_below(self, n: usize) -> Option<NodeIndex>
         ensures { IsHighest self n result }
     {
         self.below(n).highest()
@@ -194,14 +157,8 @@ impl Positions {
     pub fn below(self, n: usize) -> Positions
         ensures { (k : ℕ) → has result k ≡ (has self k && ltb k n) }
     {
-        let a = self.words;
         Positions {
-            words: [
-                word::below(a[0], n),
-                word::below(a[1], less(n, 64)),
-                word::below(a[2], less(n, 128)),
-                word::below(a[3], less(n, 192)),
-            ],
+            words: array::from_fn(|j| word::below(self.words[j], n.saturating_sub(64 * j))),
         }
     }
 
@@ -209,19 +166,15 @@ impl Positions {
     pub fn lowered(self, n: usize) -> Positions
         ensures { (k : ℕ) → has result k ≡ has self (k + n) }
     {
-        let a = self.words;
-        let j = n / 64;
-        let w0 = word::at(a, j);
-        let w1 = word::at(a, j + 1);
-        let w2 = word::at(a, j + 2);
-        let w3 = word::at(a, j + 3);
+        let w = n / 64;
         Positions {
-            words: [
-                joined(w0, w1, n),
-                joined(w1, w2, n),
-                joined(w2, w3, n),
-                joined(w3, 0, n),
-            ],
+            words: array::from_fn(|j| {
+                joined(
+                    word::at(&self.words, w + j),
+                    word::at(&self.words, w + j + 1),
+                    n,
+                )
+            }),
         }
     }
 }

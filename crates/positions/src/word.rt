@@ -27,26 +27,26 @@ pub fn without(w: u64, v: u64) -> u64
 }
 
 // The word `j`; beyond the four words there are only zeros.
-pub fn at(words: [u64; 4], j: usize) -> u64
-    ensures { result ≡ get_or words j 0 }
+pub fn at(words: &[u64; 4], j: usize) -> u64
+    ensures { result ≡ get_or words.now j 0 }
 {
-    if j < 4 { words[j] } else { 0 }
+    words.get(j).copied().unwrap_or(0)
 }
 
 pub fn ones(w: u64) -> usize
     ensures { (result ≡ count_below (bit w) 64) × (result ≤ 64) }
 {
-    u64::count_ones(w) as usize
+    w.count_ones() as usize
 }
 
 pub fn low_zero(w: u64) -> usize
     ensures { LowZero w result }
 {
-    u64::trailing_zeros(!w) as usize
+    (!w).trailing_zeros() as usize
 }
 
 pub fn bit_length(w: u64) -> usize
     ensures { BitLength w result }
 {
-    64 - u64::leading_zeros(w) as usize
+    64 - w.leading_zeros() as usize
 }

@@ -1,31 +1,30 @@
 // What goes from one line to the next, and which module a line's word belongs to.
-use clocks::refusal::{ACCEPTED, BAD_LINE};
-use clocks::vector::Seq;
-use graph::{Pasts, Slots};
-use history::{Index, Notes};
-use numbers::entry;
-use probe_clocks::Clocked;
-use probe_graph::{Log, Logged};
-use probe_history::{Traced, Traces};
-use probe_room::Visited;
-use probe_text::answers::refused;
+use clocks::refusal::Refusal;
+use graph::EventGraph;
+use history::event_history::EventHistory;
+use probe_text::answers::{Answer, Output};
+use probe_text::arguments::Arguments;
 use probe_text::lent::MOST_ROOM;
-use probe_text::parts::{bytes, part};
-use probe_text::tokens::{MOST_TOKENS, parse};
-use probe_text::words::{NO_ROW, row};
+use probe_text::tokens::{Line, MOST_TOKENS, Token, parse};
+use room::Rows;
 use room::waiting_room::WaitingRoom;
-use text::bytes::byte_at;
 
-#[derive(Clone, Copy)]
+// The tables of the graph, of the history and of the waiting room.
+#[derive(Drop)]
+pub struct Tables<'a> {
+    pub graph: probe_graph::Tables<'a>,
+    pub history: probe_history::Tables<'a>,
+    pub waiting: &'a mut Rows,
+}
+
+#[derive(Drop)]
 pub struct State {
-    // How much of the output buffer is filled.
-    pub at: usize,
     // How many entries the buffers have that list calls are lent.
     room: usize,
-    // R of the clock words; 0 before a good c.replicas.
-    replicas: usize,
-    log: Log,
-    traces: Traces,
+    // R of the clock words, from a good c.replicas on.
+    replicas: Option<usize>,
+    graph: Option<EventGraph>,
+    history: Option<EventHistory>,
     // The waiting room before the history, an empty one after each good h.new.
     waiting: WaitingRoom,
 }
@@ -33,190 +32,55 @@ pub struct State {
 impl State {
     pub fn new() -> State {
         State {
-            at: 0,
             room: 512,
-            replicas: 0,
-            log: probe_graph::no_log(),
-            traces: probe_history::no_traces(),
+            replicas: None,
+            graph: None,
+            history: None,
             waiting: WaitingRoom::new(),
         }
     }
 
-    // The same with the output filled up to another place.
-    pub fn moved(mut self, at: usize) -> State {
-        self.at = at;
-        self
+    // One line, taken apart and handed to the module of its word.
+    pub fn answer(&mut self, text: &[u8], out: &mut Output, tables: &mut Tables) {
+        let mut tokens = [Token::Bad; MOST_TOKENS];
+        self.by_word(parse(text, &mut tokens), out, tables);
     }
 
-    fn clocked(mut self, a: Clocked) -> State {
-        self.at = a.at;
-        self.replicas = a.replicas;
-        self
+    fn by_word(&mut self, line: Line, out: &mut Output, tables: &mut Tables) {
+        let room = self.room;
+        match line.word {
+            [b'c', b'.', ..] => probe_clocks::answer(&mut self.replicas, room, line, out),
+            [b'g', b'.', ..] => {
+                probe_graph::answer(&mut self.graph, room, line, out, &mut tables.graph)
+            }
+            [b'h', b'.', ..] => self.history_word(line, out, &mut tables.history),
+            [b'r', b'.', ..] => probe_room::answer(
+                &mut self.history,
+                &mut self.waiting,
+                room,
+                line,
+                out,
+                tables.waiting,
+                &mut tables.history,
+            ),
+            b"room" => out.told(self.set_room(line.arguments), false),
+            _ => out.told(Err(Refusal::BadLine), false),
+        }
     }
 
-    fn logged(mut self, a: Logged) -> State {
-        let log = a.log;
-        self.at = a.at;
-        self.log = log;
-        self
-    }
-
-    fn traced(mut self, a: Traced) -> State {
-        let traces = a.traces;
-        self.at = a.at;
-        self.traces = traces;
-        if a.is_new {
+    fn history_word(&mut self, line: Line, out: &mut Output, tables: &mut probe_history::Tables) {
+        if probe_history::answer(&mut self.history, self.room, line, out, tables) {
             self.waiting = WaitingRoom::new();
         }
-        self
     }
 
-    fn visited(mut self, a: Visited) -> State {
-        let traces = a.traces;
-        let waiting = a.room;
-        self.at = a.at;
-        self.traces = traces;
-        self.waiting = waiting;
-        self
-    }
-
-    fn roomy(mut self, room: usize) -> State {
+    // `room N`
+    fn set_room(&mut self, arguments: Arguments) -> Result<Answer, Refusal> {
+        let room = arguments.all(Arguments::number)?;
+        if MOST_ROOM < room {
+            return Err(Refusal::BadLine);
+        }
         self.room = room;
-        self
-    }
-}
-
-// What `room N` is refused with, or 0.
-fn room_refusal(line: &[u8], kinds: &[u8], values: &[usize]) -> usize {
-    if row(b"room:n", line, kinds, values) == NO_ROW {
-        return BAD_LINE;
-    }
-    if MOST_ROOM < entry(values, 0) {
-        return BAD_LINE;
-    }
-    ACCEPTED
-}
-
-// The word of no module, `room N`.
-fn room(st: State, line: &[u8], kinds: &[u8], values: &[usize], out: &mut [u8]) -> State {
-    let refusal = room_refusal(line, kinds, values);
-    let st = st.moved(refused(out, st.at, refusal));
-    if refusal == ACCEPTED {
-        return st.roomy(entry(values, 0));
-    }
-    st
-}
-
-// One line, taken apart and handed to the module of its word. The tables are those of the history, of the graph and of the waiting room.
-pub fn answer(
-    st: State,
-    line: &[u8],
-    out: &mut [u8; 65_536],
-    index: &mut Index,
-    versions: &mut [Seq; 8192],
-    notes: &mut Notes,
-    boundaries: &mut [Seq; 256],
-    slots: &mut Slots,
-    pasts: &mut Pasts,
-    table: &mut [[usize; 22]; 65],
-) -> State {
-    let mut kinds = [0u8; MOST_TOKENS];
-    let mut values = [0usize; MOST_TOKENS];
-    let n = parse(line, &mut kinds, &mut values);
-    let kinds = bytes(&kinds, 0, n);
-    let values = part(&values, 0, n);
-    by_word(
-        st, line, kinds, values, out, index, versions, notes, boundaries, slots, pasts, table,
-    )
-}
-
-// A word of the clocks.
-fn clock_word(
-    st: State,
-    line: &[u8],
-    kinds: &[u8],
-    values: &[usize],
-    out: &mut [u8; 65_536],
-) -> State {
-    st.clocked(probe_clocks::answer(st.replicas, st.room, line, kinds, values, out, st.at))
-}
-
-// A word of the graph, which is lent its tables.
-fn graph_word(
-    st: State,
-    line: &[u8],
-    kinds: &[u8],
-    values: &[usize],
-    out: &mut [u8; 65_536],
-    slots: &mut Slots,
-    pasts: &mut Pasts,
-) -> State {
-    st.logged(probe_graph::answer(
-        st.log, st.room, line, kinds, values, out, st.at, slots, pasts,
-    ))
-}
-
-// A word of the history, which is lent its tables.
-fn history_word(
-    st: State,
-    line: &[u8],
-    kinds: &[u8],
-    values: &[usize],
-    out: &mut [u8; 65_536],
-    index: &mut Index,
-    versions: &mut [Seq; 8192],
-    notes: &mut Notes,
-    boundaries: &mut [Seq; 256],
-) -> State {
-    st.traced(probe_history::answer(
-        st.traces, st.room, line, kinds, values, out, st.at, index, versions, notes, boundaries,
-    ))
-}
-
-// A word of the waiting room, which is lent its table and those of the history; or `room N`.
-fn room_word(
-    st: State,
-    line: &[u8],
-    kinds: &[u8],
-    values: &[usize],
-    out: &mut [u8; 65_536],
-    index: &mut Index,
-    versions: &mut [Seq; 8192],
-    notes: &mut Notes,
-    boundaries: &[Seq; 256],
-    table: &mut [[usize; 22]; 65],
-) -> State {
-    if byte_at(line, 1) != b'.' {
-        return room(st, line, kinds, values, out);
-    }
-    st.visited(probe_room::answer(
-        st.traces, st.waiting, st.room, line, kinds, values, out, st.at, table, index, versions,
-        notes, boundaries,
-    ))
-}
-
-fn by_word(
-    st: State,
-    line: &[u8],
-    kinds: &[u8],
-    values: &[usize],
-    out: &mut [u8; 65_536],
-    index: &mut Index,
-    versions: &mut [Seq; 8192],
-    notes: &mut Notes,
-    boundaries: &mut [Seq; 256],
-    slots: &mut Slots,
-    pasts: &mut Pasts,
-    table: &mut [[usize; 22]; 65],
-) -> State {
-    match byte_at(line, 0) {
-        b'c' => clock_word(st, line, kinds, values, out),
-        b'g' => graph_word(st, line, kinds, values, out, slots, pasts),
-        b'h' => history_word(
-            st, line, kinds, values, out, index, versions, notes, boundaries,
-        ),
-        _ => room_word(
-            st, line, kinds, values, out, index, versions, notes, boundaries, table,
-        ),
+        Ok(Answer::Nothing)
     }
 }

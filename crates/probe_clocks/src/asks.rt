@@ -1,86 +1,98 @@
-// The clock words that answer one value.
-use crate::vectors::{Pair, both, frontier};
-use clocks::causal_frontier::FrontierAnswer;
-use clocks::id::EventId;
-use clocks::refusal::{ACCEPTED, BAD_LINE};
+// The clock words that answer one value or one vector.
+use crate::vectors::{both, frontier, placed};
+use clocks::refusal::Refusal;
 use clocks::replica::ReplicaIdx;
 use clocks::version_vector::Version;
-use numbers::entry;
-use probe_text::answers::{Answer, yes_no};
-use probe_text::values::id;
-use probe_text::words::row;
+use probe_text::answers::Answer;
+use probe_text::arguments::Arguments;
+use probe_text::tokens::Line;
 
-const ENTRY: usize = 0;
-
-const CONTAINS: usize = 1;
-
-const SUM: usize = 2;
-
-const COMPARE: usize = 3;
-
-const INCLUDES: usize = 4;
-
-fn word(line: &[u8], kinds: &[u8], values: &[usize]) -> usize {
-    row(
-        b"c.entry:nv c.contains:iv c.sum:v c.compare:v|v c.includes:v|v",
-        line,
-        kinds,
-        values,
-    )
-}
-
-pub fn asked(r: usize, line: &[u8], kinds: &[u8], values: &[usize]) -> Answer {
-    match word(line, kinds, values) {
-        ENTRY => entry_of(frontier(r, kinds, values, 1), values),
-        CONTAINS => contains(frontier(r, kinds, values, 3), id(kinds, values)),
-        SUM => sum(frontier(r, kinds, values, 0)),
-        COMPARE => compare(both(r, kinds, values, 0)),
-        INCLUDES => includes(both(r, kinds, values, 0)),
-        _ => Answer::Bare(BAD_LINE),
+pub fn asked(replicas: Option<usize>, line: Line) -> Result<Answer, Refusal> {
+    let r = replicas.ok_or(Refusal::BadLine)?;
+    let arguments = line.arguments;
+    match line.word {
+        b"c.entry" => entry(r, arguments),
+        b"c.contains" => contains(r, arguments),
+        b"c.sum" => sum(r, arguments),
+        b"c.compare" => compare(r, arguments),
+        b"c.includes" => includes(r, arguments),
+        b"c.set" => set(r, arguments),
+        b"c.increment" => increment(r, arguments),
+        b"c.join" => join(r, arguments),
+        b"c.meet" => meet(r, arguments),
+        b"c.vjoin" => join_version(r, arguments),
+        _ => Err(Refusal::BadLine),
     }
 }
 
 // `c.entry O V`
-fn entry_of(a: FrontierAnswer, values: &[usize]) -> Answer {
-    if a.refusal != ACCEPTED {
-        return Answer::Bare(a.refusal);
-    }
-    let f = a.frontier;
-    Answer::Number(f.seq_by_idx(ReplicaIdx(entry(values, 0))))
+fn entry(r: usize, arguments: Arguments) -> Result<Answer, Refusal> {
+    let (origin, frontier) = placed(r, arguments)?;
+    Ok(Answer::Number(frontier.seq_by_idx(origin)))
 }
 
 // `c.contains ID V`
-fn contains(a: FrontierAnswer, id: EventId) -> Answer {
-    if a.refusal != ACCEPTED {
-        return Answer::Bare(a.refusal);
-    }
-    let f = a.frontier;
-    yes_no(f.contains(id))
+fn contains(r: usize, arguments: Arguments) -> Result<Answer, Refusal> {
+    let (id, vector) = arguments.all(|a| Ok((a.id()?, a.vector()?)))?;
+    Ok(Answer::from(frontier(r, vector)?.contains(id)))
 }
 
 // `c.sum V`
-fn sum(a: FrontierAnswer) -> Answer {
-    if a.refusal != ACCEPTED {
-        return Answer::Bare(a.refusal);
-    }
-    let f = a.frontier;
-    Answer::Number(f.sum())
+fn sum(r: usize, arguments: Arguments) -> Result<Answer, Refusal> {
+    let vector = arguments.all(Arguments::vector)?;
+    Ok(Answer::Number(frontier(r, vector)?.sum()))
 }
 
 // `c.compare V | V`
-fn compare(p: Pair) -> Answer {
-    if p.refusal != ACCEPTED {
-        return Answer::Bare(p.refusal);
-    }
-    let left = p.left;
-    Answer::Compared(left.partial_cmp(p.right))
+fn compare(r: usize, arguments: Arguments) -> Result<Answer, Refusal> {
+    let (left, right) = both(r, arguments)?;
+    Ok(Answer::Compared(left.partial_cmp(right)))
 }
 
 // `c.includes V | V`. The comparison is of all entries, so any origin will do.
-fn includes(p: Pair) -> Answer {
-    if p.refusal != ACCEPTED {
-        return Answer::Bare(p.refusal);
-    }
-    let v = Version::from_frontier(p.left, ReplicaIdx(0));
-    yes_no(v.includes_frontier(p.right))
+fn includes(r: usize, arguments: Arguments) -> Result<Answer, Refusal> {
+    let (left, right) = both(r, arguments)?;
+    let version = Version::from_frontier(left, ReplicaIdx(0));
+    Ok(Answer::from(version.includes_frontier(right)))
+}
+
+// `c.set O X V`
+fn set(r: usize, arguments: Arguments) -> Result<Answer, Refusal> {
+    let (origin, seq, vector) = arguments.all(|a| Ok((a.replica()?, a.number()?, a.vector()?)))?;
+    let mut frontier = frontier(r, vector)?;
+    frontier.set_by_idx(origin, seq)?;
+    Ok(Answer::from(frontier))
+}
+
+// `c.increment O V`
+fn increment(r: usize, arguments: Arguments) -> Result<Answer, Refusal> {
+    let (origin, frontier) = placed(r, arguments)?;
+    let mut version = Version::from_frontier(frontier, origin);
+    version.increment()?;
+    Ok(Answer::from(version.frontier()))
+}
+
+// `c.join V | V`
+fn join(r: usize, arguments: Arguments) -> Result<Answer, Refusal> {
+    let (left, right) = both(r, arguments)?;
+    Ok(Answer::from(left.join(right)))
+}
+
+// `c.meet V | V`
+fn meet(r: usize, arguments: Arguments) -> Result<Answer, Refusal> {
+    let (left, right) = both(r, arguments)?;
+    Ok(Answer::from(left.meet(right)))
+}
+
+// `c.vjoin O V | P V`
+fn join_version(r: usize, arguments: Arguments) -> Result<Answer, Refusal> {
+    let (ours, left, theirs, right) = arguments.all(|a| {
+        let ours = a.replica()?;
+        let left = a.vector()?;
+        a.bar()?;
+        Ok((ours, left, a.replica()?, a.vector()?))
+    })?;
+    let mut version = Version::from_frontier(frontier(r, left)?, ours);
+    version.join(Version::from_frontier(frontier(r, right)?, theirs))?;
+    Ok(Answer::from(version.frontier()))
 }

@@ -1,41 +1,26 @@
 // The vectors of a line as frontiers of R desks.
-use clocks::causal_frontier::{CausalFrontier, FrontierAnswer};
-use clocks::refusal::ACCEPTED;
-use probe_text::values::vector;
-use probe_text::words::{behind_numbers, next};
+use clocks::causal_frontier::CausalFrontier;
+use clocks::refusal::Refusal;
+use clocks::replica::ReplicaIdx;
+use probe_text::arguments::{Arguments, Vector};
 
-// Two of them, or the refusal number.
-#[derive(Clone, Copy)]
-pub struct Pair {
-    pub refusal: usize,
-    pub left: CausalFrontier,
-    pub right: CausalFrontier,
+// The vector, or 3.
+pub fn frontier(r: usize, vector: Vector) -> Result<CausalFrontier, Refusal> {
+    CausalFrontier::from_entries(r, vector.entries())
 }
 
-// The vector from a place on, or 3.
-pub fn frontier(r: usize, kinds: &[u8], values: &[usize], from: usize) -> FrontierAnswer {
-    CausalFrontier::from_entries(r, vector(kinds, values, from))
+// A desk and the vector behind it.
+pub fn placed(r: usize, arguments: Arguments) -> Result<(ReplicaIdx, CausalFrontier), Refusal> {
+    let (idx, vector) = arguments.all(|a| Ok((a.replica()?, a.vector()?)))?;
+    Ok((idx, frontier(r, vector)?))
 }
 
-// The place behind the bar.
-pub fn behind_bar(kinds: &[u8], values: &[usize]) -> usize {
-    next(behind_numbers(kinds, values, 0, usize::MAX))
-}
-
-fn earlier(a: usize, b: usize) -> usize {
-    if a == ACCEPTED { b } else { a }
-}
-
-// The vectors on both sides of the bar, each after `lead` numbers. What the first is refused for comes before the second.
-pub fn both(r: usize, kinds: &[u8], values: &[usize], lead: usize) -> Pair {
-    let a = frontier(r, kinds, values, lead);
-    let from = std::num::wrapping_add_usize(behind_bar(kinds, values), lead);
-    let b = frontier(r, kinds, values, from);
-    let left = a.frontier;
-    let right = b.frontier;
-    Pair {
-        refusal: earlier(a.refusal, b.refusal),
-        left,
-        right,
-    }
+// The vectors on both sides of the bar. What the first is refused for comes before the second.
+pub fn both(r: usize, arguments: Arguments) -> Result<(CausalFrontier, CausalFrontier), Refusal> {
+    let (left, right) = arguments.all(|a| {
+        let left = a.vector()?;
+        a.bar()?;
+        Ok((left, a.vector()?))
+    })?;
+    Ok((frontier(r, left)?, frontier(r, right)?))
 }

@@ -1,94 +1,86 @@
-// The graph words that answer one value.
-use clocks::id::EventId;
-use clocks::refusal::BAD_LINE;
-use graph::why::Why;
-use graph::{EventGraph, Found, Order, Pasts, Slots, Told};
-use numbers::entry;
-use positions::NodeIndex;
-use probe_text::answers::{Answer, yes_no};
-use probe_text::values::id;
-use probe_text::words::row;
+// The graph words that answer one value or one vector.
+use crate::Tables;
+use clocks::refusal::Refusal;
+use graph::EventGraph;
+use graph::why::Lack;
+use probe_text::answers::Answer;
+use probe_text::arguments::Arguments;
+use probe_text::tokens::Line;
 
-const GET: usize = 0;
-
-const ORDER: usize = 1;
-
-const IS_CRITICAL: usize = 2;
-
-const SEEN: usize = 3;
-
-const LEN: usize = 4;
-
-const IS_EMPTY: usize = 5;
-
-const WHY: usize = 6;
-
-fn word(line: &[u8], kinds: &[u8], values: &[usize]) -> usize {
-    row(
-        b"g.get:i g.order:i g.is-critical:v g.seen:v g.len: g.is-empty: g.why:n",
-        line,
-        kinds,
-        values,
-    )
-}
-
-pub fn asked<'a>(
-    g: EventGraph,
-    line: &[u8],
-    kinds: &[u8],
-    values: &'a [usize],
-    slots: &'a Slots,
-    pasts: &'a Pasts,
-) -> Answer {
-    match word(line, kinds, values) {
-        GET => found(g.get(id(kinds, values), slots)),
-        ORDER => order(g.delivery_order(id(kinds, values), slots)),
-        IS_CRITICAL => told(g.is_critical(values, slots)),
-        SEEN => told(g.seen_all(values)),
-        LEN => Answer::Number(g.len()),
-        IS_EMPTY => yes_no(g.is_empty()),
-        WHY => why(g, entry(values, 0), slots, pasts),
-        _ => Answer::Bare(BAD_LINE),
+pub fn asked(graph: &EventGraph, line: Line, tables: &Tables) -> Result<Answer, Refusal> {
+    let arguments = line.arguments;
+    match line.word {
+        b"g.get" => get(graph, arguments, tables),
+        b"g.order" => order(graph, arguments, tables),
+        b"g.is-critical" => is_critical(graph, arguments, tables),
+        b"g.greatest" => greatest(graph, arguments, tables),
+        b"g.seen" => seen(graph, arguments),
+        b"g.why" => why(graph, arguments, tables),
+        _ => of_whole(graph, line),
     }
 }
 
-fn found(f: Found) -> Answer {
-    match f {
-        Found::Op(op) => Answer::Event(op),
-        Found::NotFound => Answer::Absent,
+// The words with nothing behind them.
+fn of_whole(graph: &EventGraph, line: Line) -> Result<Answer, Refusal> {
+    line.arguments.end()?;
+    match line.word {
+        b"g.len" => Ok(Answer::Number(graph.len())),
+        b"g.is-empty" => Ok(Answer::from(graph.is_empty())),
+        b"g.roots" => Ok(Answer::from(graph.roots())),
+        b"g.named" => Ok(Answer::from(graph.named())),
+        _ => Err(Refusal::BadLine),
     }
 }
 
-fn order(o: Order) -> Answer {
-    match o {
-        Order::At(i) => Answer::Number(i.0),
-        Order::NotHeld => Answer::Absent,
-    }
+// `g.get ID`
+fn get(graph: &EventGraph, arguments: Arguments, tables: &Tables) -> Result<Answer, Refusal> {
+    let id = arguments.all(Arguments::id)?;
+    Ok(Answer::from(graph.get(id, tables.slots)))
 }
 
-fn told(t: Told) -> Answer {
-    match t {
-        Told::Yes => yes_no(true),
-        Told::No => yes_no(false),
-        Told::Refused(r) => Answer::Bare(r),
-    }
+// `g.order ID`
+fn order(graph: &EventGraph, arguments: Arguments, tables: &Tables) -> Result<Answer, Refusal> {
+    let id = arguments.all(Arguments::id)?;
+    let place = graph.delivery_order(id, tables.slots);
+    Ok(place.map_or(Answer::Absent, |i| Answer::Number(i.0)))
+}
+
+// `g.is-critical V`
+fn is_critical(
+    graph: &EventGraph,
+    arguments: Arguments,
+    tables: &Tables,
+) -> Result<Answer, Refusal> {
+    let frontier = arguments.all(Arguments::vector)?;
+    let critical = graph.is_critical(frontier.entries(), tables.slots)?;
+    Ok(Answer::from(critical))
+}
+
+// `g.greatest V`
+fn greatest(graph: &EventGraph, arguments: Arguments, tables: &Tables) -> Result<Answer, Refusal> {
+    let bound = arguments.all(Arguments::vector)?;
+    let greatest = graph.greatest_critical_frontier(bound.entries(), tables.slots)?;
+    Ok(Answer::from(greatest))
+}
+
+// `g.seen V`
+fn seen(graph: &EventGraph, arguments: Arguments) -> Result<Answer, Refusal> {
+    let version = arguments.all(Arguments::vector)?;
+    let seen = graph.seen_all(version.entries())?;
+    Ok(Answer::from(seen))
 }
 
 // `g.why L`: a cut, or two ids, the later first.
-fn why<'a>(g: EventGraph, length: usize, slots: &'a Slots, pasts: &'a Pasts) -> Answer {
-    match g.why(length, pasts) {
-        Why::Cut => Answer::Cut,
-        Why::Lacks(later, earlier) => pair(g.event_at(later, slots), g.event_at(earlier, slots)),
-        Why::Refused(r) => Answer::Bare(r),
-    }
+fn why(graph: &EventGraph, arguments: Arguments, tables: &Tables) -> Result<Answer, Refusal> {
+    let length = arguments.all(Arguments::number)?;
+    Ok(match graph.why(length, tables.pasts)? {
+        Some(lack) => lacking(graph, lack, tables).unwrap_or(Answer::Absent),
+        None => Answer::Cut,
+    })
 }
 
-fn pair(later: Found, earlier: Found) -> Answer {
-    let Found::Op(first) = later else {
-        return Answer::Absent;
-    };
-    let Found::Op(second) = earlier else {
-        return Answer::Absent;
-    };
-    Answer::Ids(first.id(), second.id())
+fn lacking(graph: &EventGraph, lack: Lack, tables: &Tables) -> Option<Answer> {
+    let later = graph.event_at(lack.later, tables.slots)?;
+    let earlier = graph.event_at(lack.earlier, tables.slots)?;
+    Some(Answer::Ids(later.id(), earlier.id()))
 }

@@ -1,174 +1,123 @@
-// The graph words that hand back a graph. A refusal's graph is looked at, and kept as it comes, so a change would show in what is asked next too.
-use crate::Log;
-use clocks::refusal::{ACCEPTED, BAD_LINE};
-use graph::{COLUMNS, EventGraph, GraphAnswer, Pasts, Removed, Slots};
-use numbers::entry;
+// The graph words that change a graph.
+use crate::Tables;
+use clocks::refusal::Refusal;
+use graph::EventGraph;
 use probe_text::answers::Answer;
-use probe_text::parts::bytes;
-use probe_text::values::{event, id, mask, vector};
-use probe_text::words::row;
+use probe_text::arguments::{Arguments, Vector};
+use probe_text::tokens::MOST_TOKENS;
 
-const NEW: usize = 0;
-
-const FROM: usize = 1;
-
-const APPEND: usize = 2;
-
-const FLUSH: usize = 3;
-
-const REMOVE: usize = 4;
-
-const RETAIN: usize = 5;
-
-const RAISE: usize = 6;
-
-// The answer, whether it is a refusal, whether that handed back another graph, and the log.
-#[derive(Clone, Copy)]
-pub struct Change {
-    pub answer: Answer,
-    pub refused: bool,
-    pub changed: bool,
-    pub log: Log,
+#[derive(Clone, Copy, Debug, PartialEq, Eq)]
+pub enum Word {
+    Append,
+    Flush,
+    Advance,
+    Remove,
+    Retain,
+    Raise,
+    Clear,
 }
 
-pub fn word(line: &[u8], kinds: &[u8], values: &[usize]) -> usize {
-    row(
-        b"g.new:n g.from:nv g.append:innrv g.flush:v g.remove:i g.retain:m g.raise:n g.clear:",
-        line,
-        kinds,
-        values,
-    )
+impl Word {
+    pub fn of(text: &[u8]) -> Option<Word> {
+        match text {
+            b"g.append" => Some(Word::Append),
+            b"g.flush" => Some(Word::Flush),
+            b"g.advance" => Some(Word::Advance),
+            b"g.remove" => Some(Word::Remove),
+            b"g.retain" => Some(Word::Retain),
+            b"g.raise" => Some(Word::Raise),
+            b"g.clear" => Some(Word::Clear),
+            _ => None,
+        }
+    }
 }
 
 pub fn called(
-    word: usize,
-    log: Log,
-    kinds: &[u8],
-    values: &[usize],
-    slots: &mut Slots,
-    pasts: &mut Pasts,
-) -> Change {
-    let r = entry(values, 0);
+    word: Word,
+    arguments: Arguments,
+    graph: &mut EventGraph,
+    tables: &mut Tables,
+) -> Result<Answer, Refusal> {
     match word {
-        NEW => created(log, EventGraph::new(r), slots, pasts),
-        FROM => created(
-            log,
-            EventGraph::from_checkpoint(r, vector(kinds, values, 1)),
-            slots,
-            pasts,
-        ),
-        _ => of_made(word, log, kinds, values, slots, pasts),
+        Word::Append => append(arguments, graph, tables),
+        Word::Flush => flush(arguments, graph, tables),
+        Word::Advance => advance(arguments, graph, tables),
+        Word::Remove => remove(arguments, graph, tables),
+        Word::Retain => retain(arguments, graph, tables),
+        Word::Raise => raise(arguments, graph),
+        Word::Clear => clear(arguments, graph, tables),
     }
 }
 
-fn of_made(
-    word: usize,
-    log: Log,
-    kinds: &[u8],
-    values: &[usize],
-    slots: &mut Slots,
-    pasts: &mut Pasts,
-) -> Change {
-    if log.made {
-        return turned(word, log.graph, kinds, values, slots, pasts);
-    }
-    unchanged(log, BAD_LINE)
+// `g.append ID L P R V`
+fn append(
+    arguments: Arguments,
+    graph: &mut EventGraph,
+    tables: &mut Tables,
+) -> Result<Answer, Refusal> {
+    let (event, version) = arguments.all(|a| Ok((a.event()?, a.vector()?)))?;
+    graph.append(event, version.entries(), tables.slots, tables.pasts)?;
+    Ok(Answer::Nothing)
 }
 
-fn turned(
-    word: usize,
-    g: EventGraph,
-    kinds: &[u8],
-    values: &[usize],
-    slots: &mut Slots,
-    pasts: &mut Pasts,
-) -> Change {
-    match word {
-        APPEND => appended(
-            g,
-            g.append(event(kinds, values), vector(kinds, values, 6), slots, pasts),
-        ),
-        FLUSH => removed(g, g.prune_predecessors(values, slots, pasts)),
-        REMOVE => removed(g, g.remove(id(kinds, values), slots, pasts)),
-        RETAIN => retained(g, values, slots, pasts),
-        RAISE => appended(g, g.raise(entry(values, 0))),
-        _ => removed(g, g.clear(slots, pasts)),
-    }
+// `g.flush V`
+fn flush(
+    arguments: Arguments,
+    graph: &mut EventGraph,
+    tables: &mut Tables,
+) -> Result<Answer, Refusal> {
+    let frontier = arguments.all(Arguments::vector)?;
+    let count = graph.prune_predecessors(frontier.entries(), tables.slots, tables.pasts)?;
+    Ok(Answer::Number(count))
 }
 
-// A refusal that leaves the log that was there.
-fn unchanged(log: Log, refusal: usize) -> Change {
-    Change {
-        answer: Answer::Bare(refusal),
-        refused: true,
-        changed: false,
-        log,
-    }
+// `g.advance V`: the frontier that was flushed and how many went, or that there was none.
+fn advance(
+    arguments: Arguments,
+    graph: &mut EventGraph,
+    tables: &mut Tables,
+) -> Result<Answer, Refusal> {
+    let bound = arguments.all(Arguments::vector)?;
+    let flushed = graph.advance(bound.entries(), tables.slots, tables.pasts)?;
+    Ok(flushed.map_or(Answer::Absent, |a| {
+        Answer::Counted(Vector::from(a.frontier), a.count)
+    }))
 }
 
-// A new log, whose tables are zeros, or the refusal and the log that was there.
-fn created(log: Log, a: GraphAnswer, slots: &mut Slots, pasts: &mut Pasts) -> Change {
-    if a.refusal != ACCEPTED {
-        return unchanged(log, a.refusal);
-    }
-    *slots = [[0; 256]; COLUMNS];
-    *pasts = [0; 1024];
-    accepted(Answer::Bare(ACCEPTED), a.graph)
-}
-
-fn accepted(answer: Answer, graph: EventGraph) -> Change {
-    Change {
-        answer,
-        refused: false,
-        changed: false,
-        log: Log { made: true, graph },
-    }
-}
-
-// A refusal with the graph that it handed back.
-fn refused(before: EventGraph, refusal: usize, graph: EventGraph) -> Change {
-    Change {
-        answer: Answer::Bare(refusal),
-        refused: true,
-        changed: differ(before, graph),
-        log: Log { made: true, graph },
-    }
-}
-
-fn appended(before: EventGraph, a: GraphAnswer) -> Change {
-    if a.refusal != ACCEPTED {
-        return refused(before, a.refusal, a.graph);
-    }
-    accepted(Answer::Bare(ACCEPTED), a.graph)
-}
-
-fn removed(before: EventGraph, a: Removed) -> Change {
-    if a.refusal != ACCEPTED {
-        return refused(before, a.refusal, a.graph);
-    }
-    accepted(Answer::Number(a.count), a.graph)
+// `g.remove ID`
+fn remove(
+    arguments: Arguments,
+    graph: &mut EventGraph,
+    tables: &mut Tables,
+) -> Result<Answer, Refusal> {
+    let id = arguments.all(Arguments::id)?;
+    Ok(Answer::Number(graph.remove(id, tables.slots, tables.pasts)))
 }
 
 // `g.retain M`
-fn retained(g: EventGraph, values: &[usize], slots: &mut Slots, pasts: &mut Pasts) -> Change {
-    let keep = mask(values);
-    removed(g, g.retain(bytes(&keep, 0, values.len()), slots, pasts))
+fn retain(
+    arguments: Arguments,
+    graph: &mut EventGraph,
+    tables: &mut Tables,
+) -> Result<Answer, Refusal> {
+    let mut mask = [0; MOST_TOKENS];
+    let mask = arguments.mask(&mut mask)?;
+    let count = graph.retain(mask, tables.slots, tables.pasts)?;
+    Ok(Answer::Number(count))
 }
 
-// Whether two graphs tell another number of events, another named or other roots.
-pub fn differ(a: EventGraph, b: EventGraph) -> bool {
-    if a.len() != b.len() {
-        return true;
-    }
-    let named = a.named();
-    if !named.eq(b.named()) {
-        return true;
-    }
-    let roots = a.roots();
-    let others = b.roots();
-    if roots.found != others.found {
-        return true;
-    }
-    let f = roots.frontier;
-    !f.eq(others.frontier)
+// `g.raise R`
+fn raise(arguments: Arguments, graph: &mut EventGraph) -> Result<Answer, Refusal> {
+    graph.raise(arguments.all(Arguments::number)?)?;
+    Ok(Answer::Nothing)
+}
+
+// `g.clear`
+fn clear(
+    arguments: Arguments,
+    graph: &mut EventGraph,
+    tables: &mut Tables,
+) -> Result<Answer, Refusal> {
+    arguments.end()?;
+    Ok(Answer::Number(graph.clear(tables.slots, tables.pasts)))
 }

@@ -1,132 +1,100 @@
 // The graph words of the line driver: each makes one call of `graph`. The tables are lent to each word, and changed in place.
 #![tactic(auto)]
 
-mod advances;
 mod asks;
 mod changes;
-mod frontiers;
 mod lists;
 
-use clocks::refusal::BAD_LINE;
+use clocks::refusal::Refusal;
 use graph::{EventGraph, Pasts, Slots};
-use probe_text::answers;
-use probe_text::lent::{digest, words_digest};
-use probe_text::words::NO_ROW;
+use probe_text::answers::{Answer, Output};
+use probe_text::arguments::Arguments;
+use probe_text::lent::digest;
+use probe_text::tokens::Line;
 
-// The graph, and whether a good g.new or g.from came.
-#[derive(Clone, Copy)]
-pub struct Log {
-    made: bool,
-    graph: EventGraph,
-}
-
-// The place behind the answer, and the log.
-#[derive(Clone, Copy)]
-pub struct Logged {
-    pub at: usize,
-    pub log: Log,
-}
-
-// No log yet: its graph is asked nothing.
-pub fn no_log() -> Log {
-    let a = EventGraph::new(1);
-    let graph = a.graph;
-    Log { made: false, graph }
+// The tables of a graph.
+#[derive(Drop)]
+pub struct Tables<'a> {
+    pub slots: &'a mut Slots,
+    pub pasts: &'a mut Pasts,
 }
 
 // A number that tells two contents of the tables apart.
-fn tables_digest(slots: &Slots, pasts: &Pasts) -> u64 {
-    let ids = digest(&slots[0]) ^ (digest(&slots[1]) << 1) ^ (digest(&slots[2]) << 2);
-    let notes = (digest(&slots[3]) << 3) ^ (digest(&slots[4]) << 4) ^ (digest(&slots[5]) << 5);
-    ids ^ notes ^ (words_digest(pasts) << 6)
+fn tables_digest(tables: &Tables) -> u64 {
+    let notes = digest(tables.slots, |column| digest(column, |n| *n as u64));
+    notes ^ (digest(tables.pasts, |word| *word) << 6)
 }
 
+// One line. Before a good g.new or g.from there is no graph, and no word but those has an answer.
 pub fn answer(
-    log: Log,
+    graph: &mut Option<EventGraph>,
     room: usize,
-    line: &[u8],
-    kinds: &[u8],
-    values: &[usize],
-    out: &mut [u8],
-    at: usize,
-    slots: &mut Slots,
-    pasts: &mut Pasts,
-) -> Logged {
-    if advances::is_word(line, kinds, values) {
-        return advances::answered(log, values, out, at, slots, pasts);
+    line: Line,
+    out: &mut Output,
+    tables: &mut Tables,
+) {
+    match line.word {
+        b"g.new" => out.told(begun(fresh(line.arguments), graph, tables), false),
+        b"g.from" => out.told(begun(restored(line.arguments), graph, tables), false),
+        _ => match graph {
+            Some(graph) => of_made(graph, room, line, out, tables),
+            None => out.told(Err(Refusal::BadLine), false),
+        },
     }
-    let word = changes::word(line, kinds, values);
-    if word == NO_ROW {
-        return Logged {
-            at: asked(log, room, line, kinds, values, out, at, slots, pasts),
-            log,
-        };
-    }
-    changed(word, log, kinds, values, out, at, slots, pasts)
 }
 
-// The words that hand back a graph. Where one refused, the tables are to be as they were.
+// `g.new R`
+fn fresh(arguments: Arguments) -> Result<EventGraph, Refusal> {
+    EventGraph::new(arguments.all(Arguments::number)?)
+}
+
+// `g.from R V`
+fn restored(arguments: Arguments) -> Result<EventGraph, Refusal> {
+    let (r, vector) = arguments.all(|a| Ok((a.number()?, a.vector()?)))?;
+    EventGraph::from_checkpoint(r, vector.entries())
+}
+
+// A new log, whose tables are zeros, or the refusal and the log that was there.
+fn begun(
+    made: Result<EventGraph, Refusal>,
+    graph: &mut Option<EventGraph>,
+    tables: &mut Tables,
+) -> Result<Answer, Refusal> {
+    *graph = Some(made?);
+    for column in tables.slots.iter_mut() {
+        column.fill(0);
+    }
+    tables.pasts.fill(0);
+    Ok(Answer::Nothing)
+}
+
+fn of_made(graph: &mut EventGraph, room: usize, line: Line, out: &mut Output, tables: &mut Tables) {
+    if let Some(word) = changes::Word::of(line.word) {
+        return changed(word, line.arguments, graph, out, tables);
+    }
+    if let Some(word) = lists::Word::of(line.word) {
+        return lists::told(word, line.arguments, graph, room, out, tables);
+    }
+    out.told(asks::asked(graph, line, tables), false)
+}
+
+// The words that change the graph. Where one is refused, or flushes nothing, the graph and its tables are to be as they were.
 fn changed(
-    word: usize,
-    log: Log,
-    kinds: &[u8],
-    values: &[usize],
-    out: &mut [u8],
-    at: usize,
-    slots: &mut Slots,
-    pasts: &mut Pasts,
-) -> Logged {
-    let before = tables_digest(slots, pasts);
-    let c = changes::called(word, log, kinds, values, slots, pasts);
-    let after = tables_digest(slots, pasts);
-    let answer = c.answer;
-    let log = c.log;
-    Logged {
-        at: answers::told(
-            out,
-            at,
-            answer,
-            is_changed(c.refused, c.changed, before == after),
-        ),
-        log,
-    }
+    word: changes::Word,
+    arguments: Arguments,
+    graph: &mut EventGraph,
+    out: &mut Output,
+    tables: &mut Tables,
+) {
+    let old = *graph;
+    let before = tables_digest(tables);
+    let answer = changes::called(word, arguments, graph, tables);
+    let same = is_same(&old, graph) && tables_digest(tables) == before;
+    let stays = matches!(answer, Err(_) | Ok(Answer::Absent));
+    out.told(answer, stays && !same)
 }
 
-fn is_changed(refused: bool, changed: bool, same_tables: bool) -> bool {
-    if same_tables {
-        return changed;
-    }
-    refused
-}
-
-// The words that leave the graph as it is.
-fn asked<'a>(
-    log: Log,
-    room: usize,
-    line: &[u8],
-    kinds: &[u8],
-    values: &'a [usize],
-    out: &mut [u8],
-    at: usize,
-    slots: &'a Slots,
-    pasts: &'a Pasts,
-) -> usize {
-    let g = log.graph;
-    if !log.made {
-        return answers::refused(out, at, BAD_LINE);
-    }
-    let word = lists::word(line, kinds, values);
-    if word != NO_ROW {
-        return lists::listed(word, g, room, kinds, values, out, at, slots, pasts);
-    }
-    let word = frontiers::word(line, kinds, values);
-    if word != NO_ROW {
-        return frontiers::told(frontiers::called(word, g, values, slots), out, at);
-    }
-    answers::told(
-        out,
-        at,
-        asks::asked(g, line, kinds, values, slots, pasts),
-        false,
-    )
+// Whether two graphs tell the same number of events, the same named and the same roots.
+fn is_same(a: &EventGraph, b: &EventGraph) -> bool {
+    a.len() == b.len() && a.named() == b.named() && a.roots() == b.roots()
 }

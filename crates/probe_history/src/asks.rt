@@ -1,69 +1,105 @@
-// The history words that answer one value.
-use clocks::refusal::BAD_LINE;
+// The history words that answer one value or one vector.
+use crate::Tables;
+use clocks::id::EventId;
+use clocks::refusal::Refusal;
 use clocks::replica::ReplicaIdx;
-use clocks::vector::Seq;
-use history::event_history::{EventHistory, FirstObserver, Found};
-use history::{Index, Notes};
-use numbers::entry;
-use probe_text::answers::{Answer, yes_no};
-use probe_text::values::id;
-use probe_text::words::row;
+use history::event_history::{EventHistory, FirstObserver};
+use probe_text::answers::Answer;
+use probe_text::arguments::{Arguments, Vector};
+use probe_text::tokens::Line;
 
-const GET: usize = 0;
-
-const PREVIOUS: usize = 1;
-
-const NEXT: usize = 2;
-
-const LEN: usize = 3;
-
-const IS_EMPTY: usize = 4;
-
-const FIRST: usize = 5;
-
-fn word(line: &[u8], kinds: &[u8], values: &[usize]) -> usize {
-    row(
-        b"h.get:i h.previous:in h.next:in h.len: h.is-empty: h.first:in",
-        line,
-        kinds,
-        values,
-    )
-}
-
-pub fn asked(
-    h: EventHistory,
-    line: &[u8],
-    kinds: &[u8],
-    values: &[usize],
-    index: &Index,
-    versions: &[Seq; 8192],
-    notes: &Notes,
-    boundaries: &[Seq; 256],
-) -> Answer {
-    let id = id(kinds, values);
-    let r = ReplicaIdx(entry(values, 3));
-    match word(line, kinds, values) {
-        GET => found(h.get(id, index, notes)),
-        PREVIOUS => found(h.previous(id, r, index, notes, versions)),
-        NEXT => found(h.next(id, r, index, versions, notes)),
-        LEN => Answer::Number(h.len()),
-        IS_EMPTY => yes_no(h.is_empty()),
-        FIRST => first(h.first_observer(id, r, index, versions, notes, boundaries)),
-        _ => Answer::Bare(BAD_LINE),
+pub fn asked(history: &EventHistory, line: Line, tables: &Tables) -> Result<Answer, Refusal> {
+    let arguments = line.arguments;
+    match line.word {
+        b"h.get" => get(history, arguments, tables),
+        b"h.previous" => previous(history, arguments, tables),
+        b"h.next" => next(history, arguments, tables),
+        b"h.first" => first(history, arguments, tables),
+        b"h.version" => version(history, arguments, tables),
+        b"h.last-version" => last_version(history, arguments, tables),
+        b"h.len" => len(history, arguments),
+        b"h.is-empty" => is_empty(history, arguments),
+        _ => Err(Refusal::BadLine),
     }
 }
 
-fn found(f: Found) -> Answer {
-    match f {
-        Found::Op(op) => Answer::Event(op),
-        Found::Nothing => Answer::Absent,
-    }
+// An id and a desk.
+fn placed(arguments: Arguments) -> Result<(EventId, ReplicaIdx), Refusal> {
+    arguments.all(|a| Ok((a.id()?, a.replica()?)))
 }
 
-fn first(f: FirstObserver) -> Answer {
-    match f {
+// `h.get ID`
+fn get(history: &EventHistory, arguments: Arguments, tables: &Tables) -> Result<Answer, Refusal> {
+    let id = arguments.all(Arguments::id)?;
+    Ok(Answer::from(history.get(id, tables.index, tables.notes)))
+}
+
+// `h.previous ID O`
+fn previous(
+    history: &EventHistory,
+    arguments: Arguments,
+    tables: &Tables,
+) -> Result<Answer, Refusal> {
+    let (id, r) = placed(arguments)?;
+    let found = history.previous(id, r, tables.index, tables.notes, tables.versions);
+    Ok(Answer::from(found))
+}
+
+// `h.next ID O`
+fn next(history: &EventHistory, arguments: Arguments, tables: &Tables) -> Result<Answer, Refusal> {
+    let (id, r) = placed(arguments)?;
+    let found = history.next(id, r, tables.index, tables.versions, tables.notes);
+    Ok(Answer::from(found))
+}
+
+// `h.first ID O`
+fn first(history: &EventHistory, arguments: Arguments, tables: &Tables) -> Result<Answer, Refusal> {
+    let (id, r) = placed(arguments)?;
+    let first = history.first_observer(
+        id,
+        r,
+        tables.index,
+        tables.versions,
+        tables.notes,
+        tables.boundaries,
+    );
+    Ok(match first {
         FirstObserver::Event(op) => Answer::Event(op),
         FirstObserver::NoneYet => Answer::Absent,
         FirstObserver::Pruned => Answer::Pruned,
-    }
+    })
+}
+
+// `h.version ID`
+fn version(
+    history: &EventHistory,
+    arguments: Arguments,
+    tables: &Tables,
+) -> Result<Answer, Refusal> {
+    let id = arguments.all(Arguments::id)?;
+    let row = history.version(id, tables.index, tables.notes, tables.versions);
+    Ok(Answer::Vector(Vector::from(row)))
+}
+
+// `h.last-version O`
+fn last_version(
+    history: &EventHistory,
+    arguments: Arguments,
+    tables: &Tables,
+) -> Result<Answer, Refusal> {
+    let r = arguments.all(Arguments::replica)?;
+    let row = history.last_version(r, tables.index, tables.versions, tables.boundaries);
+    Ok(Answer::Vector(Vector::from(row)))
+}
+
+// `h.len`
+fn len(history: &EventHistory, arguments: Arguments) -> Result<Answer, Refusal> {
+    arguments.end()?;
+    Ok(Answer::Number(history.len()))
+}
+
+// `h.is-empty`
+fn is_empty(history: &EventHistory, arguments: Arguments) -> Result<Answer, Refusal> {
+    arguments.end()?;
+    Ok(Answer::from(history.is_empty()))
 }

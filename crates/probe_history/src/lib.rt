@@ -4,156 +4,86 @@
 mod asks;
 mod changes;
 mod lists;
-mod rows;
 
-use clocks::refusal::BAD_LINE;
+use clocks::refusal::Refusal;
 use clocks::vector::Seq;
 use history::event_history::EventHistory;
 use history::{Index, Notes};
-use probe_text::answers;
-use probe_text::lent::{digest, rows_digest, words_digest};
-use probe_text::words::NO_ROW;
+use probe_text::answers::{Answer, Output};
+use probe_text::arguments::Arguments;
+use probe_text::lent::digest;
+use probe_text::tokens::Line;
 
-// The history, and whether a good h.new came.
-#[derive(Clone, Copy)]
-pub struct Traces {
-    pub made: bool,
-    pub history: EventHistory,
-}
-
-// The place behind the answer, the history, and whether it is a new one.
-#[derive(Clone, Copy)]
-pub struct Traced {
-    pub at: usize,
-    pub traces: Traces,
-    pub is_new: bool,
-}
-
-// No history yet: it is asked nothing.
-pub fn no_traces() -> Traces {
-    let a = EventHistory::new(1);
-    let history = a.history;
-    Traces {
-        made: false,
-        history,
-    }
+// The tables of a history.
+#[derive(Drop)]
+pub struct Tables<'a> {
+    pub index: &'a mut Index,
+    pub versions: &'a mut [Seq; 8192],
+    pub notes: &'a mut Notes,
+    pub boundaries: &'a mut [Seq; 256],
 }
 
 // A number that tells two contents of the tables apart.
-pub fn tables_digest(
-    index: &Index,
-    versions: &[Seq; 8192],
-    notes: &Notes,
-    boundaries: &[Seq; 256],
-) -> u64 {
-    digest(versions)
-        ^ (words_digest(notes) << 1)
-        ^ (digest(boundaries) << 2)
-        ^ (rows_digest(index) << 3)
+pub fn tables_digest(tables: &Tables) -> u64 {
+    digest(tables.versions, |seq| *seq as u64)
+        ^ (digest(tables.notes, |word| *word) << 1)
+        ^ (digest(tables.boundaries, |seq| *seq as u64) << 2)
+        ^ (digest(tables.index, |row| u64::from(*row)) << 3)
 }
 
+// One line, and whether it made a history. Before a good h.new there is none, and no word but that one has an answer.
 pub fn answer(
-    t: Traces,
+    history: &mut Option<EventHistory>,
     room: usize,
-    line: &[u8],
-    kinds: &[u8],
-    values: &[usize],
-    out: &mut [u8],
-    at: usize,
-    index: &mut Index,
-    versions: &mut [Seq; 8192],
-    notes: &mut Notes,
-    boundaries: &mut [Seq; 256],
-) -> Traced {
-    let word = changes::word(line, kinds, values);
-    if word == NO_ROW {
-        return Traced {
-            at: asked(
-                t, room, line, kinds, values, out, at, index, versions, notes, boundaries,
-            ),
-            traces: t,
-            is_new: false,
-        };
+    line: Line,
+    out: &mut Output,
+    tables: &mut Tables,
+) -> bool {
+    if let b"h.new" = line.word {
+        let made = created(history, line.arguments);
+        out.told(made, false);
+        return made.is_ok();
     }
-    changed(
-        word, t, kinds, values, out, at, index, versions, notes, boundaries,
-    )
+    match history {
+        Some(history) => of_made(history, room, line, out, tables),
+        None => out.told(Err(Refusal::BadLine), false),
+    }
+    false
 }
 
-// The words that hand back a history. Where one refused, the tables are to be as they were.
+// `h.new R`
+fn created(history: &mut Option<EventHistory>, arguments: Arguments) -> Result<Answer, Refusal> {
+    *history = Some(EventHistory::new(arguments.all(Arguments::number)?)?);
+    Ok(Answer::Nothing)
+}
+
+fn of_made(
+    history: &mut EventHistory,
+    room: usize,
+    line: Line,
+    out: &mut Output,
+    tables: &mut Tables,
+) {
+    if let Some(word) = changes::Word::of(line.word) {
+        return changed(word, line.arguments, history, out, tables);
+    }
+    if let Some(word) = lists::Word::of(line.word) {
+        return lists::told(word, line.arguments, history, room, out, tables);
+    }
+    out.told(asks::asked(history, line, tables), false)
+}
+
+// The words that change the history. Where one is refused, the history is to hold as many events and the tables are to be as they were.
 fn changed(
-    word: usize,
-    t: Traces,
-    kinds: &[u8],
-    values: &[usize],
-    out: &mut [u8],
-    at: usize,
-    index: &mut Index,
-    versions: &mut [Seq; 8192],
-    notes: &mut Notes,
-    boundaries: &mut [Seq; 256],
-) -> Traced {
-    let before = tables_digest(index, versions, notes, boundaries);
-    let c = changes::called(word, t, kinds, values, index, versions, notes, boundaries);
-    let after = tables_digest(index, versions, notes, boundaries);
-    let answer = c.answer;
-    let traces = c.traces;
-    Traced {
-        at: answers::told(
-            out,
-            at,
-            answer,
-            is_changed(c.refused, c.changed, before == after),
-        ),
-        traces,
-        is_new: is_new(word, c.refused),
-    }
-}
-
-// A history was made.
-fn is_new(word: usize, refused: bool) -> bool {
-    if refused {
-        return false;
-    }
-    word == changes::NEW
-}
-
-fn is_changed(refused: bool, changed: bool, same_tables: bool) -> bool {
-    if same_tables {
-        return changed;
-    }
-    refused
-}
-
-// The words that leave the history as it is.
-fn asked<'a>(
-    t: Traces,
-    room: usize,
-    line: &[u8],
-    kinds: &[u8],
-    values: &[usize],
-    out: &mut [u8],
-    at: usize,
-    index: &Index,
-    versions: &'a [Seq; 8192],
-    notes: &Notes,
-    boundaries: &'a [Seq; 256],
-) -> usize {
-    let h = t.history;
-    if !t.made {
-        return answers::refused(out, at, BAD_LINE);
-    }
-    let word = lists::word(line, kinds, values);
-    if word != NO_ROW {
-        return lists::listed(
-            word, h, room, kinds, values, out, at, index, versions, notes, boundaries,
-        );
-    }
-    let word = rows::word(line, kinds, values);
-    if word != NO_ROW {
-        let row = rows::called(word, h, kinds, values, index, versions, notes, boundaries);
-        return answers::vector(out, at, row, row.len());
-    }
-    let answer = asks::asked(h, line, kinds, values, index, versions, notes, boundaries);
-    answers::told(out, at, answer, false)
+    word: changes::Word,
+    arguments: Arguments,
+    history: &mut EventHistory,
+    out: &mut Output,
+    tables: &mut Tables,
+) {
+    let len = history.len();
+    let before = tables_digest(tables);
+    let answer = changes::called(word, arguments, history, tables);
+    let same = history.len() == len && tables_digest(tables) == before;
+    out.told(answer, answer.is_err() && !same)
 }

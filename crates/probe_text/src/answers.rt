@@ -1,171 +1,174 @@
-// Answer lines, put into the output buffer. Each function hands back the place behind what it wrote.
+// Answer lines, collected in a buffer.
+use crate::arguments::Vector;
 use clocks::causal_frontier::CausalFrontier;
 use clocks::id::{Disambiguator, EventId};
-use clocks::refusal::ACCEPTED;
+use clocks::refusal::{Refusal, number_in};
 use clocks::tagged_op::TaggedOp;
-use clocks::vector::Comparison;
-use numbers::{entry, wide};
-use text::bytes::put;
-use text::number::write_number;
+use std::cmp::Ordering;
+use text::buffer::Buffer;
 
-// What a line is answered with: a refusal number or 0 alone, or 0 and one more thing.
-#[derive(Clone, Copy)]
+// What an accepted line is answered with behind the 0.
+#[derive(Clone, Copy, Debug, PartialEq, Eq)]
 pub enum Answer {
-    Bare(usize),
+    Nothing,
     Number(usize),
     Absent,
+    Id(EventId),
     Event(TaggedOp),
-    Compared(Comparison),
+    Compared(Option<Ordering>),
     Cut,
     Ids(EventId, EventId),
     Pruned,
+    Vector(Vector),
+    Counted(Vector, usize),
 }
 
-pub fn yes_no(yes: bool) -> Answer {
-    if yes {
-        return Answer::Number(1);
-    }
-    Answer::Number(0)
-}
-
-fn byte(out: &mut [u8], at: usize, b: u8) -> usize {
-    if at < out.len() {
-        out[at] = b;
-        return at + 1;
-    }
-    at
-}
-
-// A mark and a number.
-fn marked(out: &mut [u8], at: usize, mark: u8, n: u64) -> usize {
-    let at = byte(out, at, mark);
-    write_number(out, at, n)
-}
-
-// A refusal number, or the 0 that an answer starts with.
-pub fn bare(out: &mut [u8], at: usize, n: usize) -> usize {
-    write_number(out, at, wide(n))
-}
-
-// A number after a space.
-pub fn spaced(out: &mut [u8], at: usize, n: usize) -> usize {
-    marked(out, at, b' ', wide(n))
-}
-
-fn tag(out: &mut [u8], at: usize, d: Disambiguator) -> usize {
-    match d {
-        Disambiguator::Absent => put(out, at, b":-"),
-        Disambiguator::Number(n) => marked(out, at, b':', n as u64),
+impl From<bool> for Answer {
+    fn from(yes: bool) -> Answer {
+        Answer::Number(usize::from(yes))
     }
 }
 
-// An id after a space.
-pub fn id(out: &mut [u8], at: usize, id: EventId) -> usize {
-    let replica = id.idx;
-    let d = id.disambiguator;
-    let at = spaced(out, at, replica.0);
-    let at = marked(out, at, b':', wide(id.seq));
-    tag(out, at, d)
-}
-
-// Two ids, each after a space.
-fn ids(out: &mut [u8], at: usize, first: EventId, second: EventId) -> usize {
-    let at = id(out, at, first);
-    id(out, at, second)
-}
-
-// An event after a space.
-pub fn event(out: &mut [u8], at: usize, op: TaggedOp) -> usize {
-    let at = id(out, at, op.id());
-    let at = marked(out, at, b':', op.lamport());
-    let at = marked(out, at, b':', op.op);
-    marked(out, at, b':', op.revision as u64)
-}
-
-fn comparison(out: &mut [u8], at: usize, c: Comparison) -> usize {
-    match c {
-        Comparison::Equal => put(out, at, b" equal"),
-        Comparison::Above => put(out, at, b" above"),
-        Comparison::Below => put(out, at, b" below"),
-        Comparison::Beside => put(out, at, b" beside"),
+impl From<Option<TaggedOp>> for Answer {
+    fn from(op: Option<TaggedOp>) -> Answer {
+        op.map_or(Answer::Absent, Answer::Event)
     }
 }
 
-// What an answer starts with.
-fn first(a: Answer) -> usize {
-    match a {
-        Answer::Bare(n) => n,
-        _ => ACCEPTED,
+// The entries of its desks.
+impl From<CausalFrontier> for Vector {
+    fn from(frontier: CausalFrontier) -> Vector {
+        let entries = frontier.entries();
+        Vector::from(entries.get(..frontier.len()).unwrap_or(&[]))
     }
 }
 
-// What follows, after a space.
-fn rest(out: &mut [u8], at: usize, a: Answer) -> usize {
-    match a {
-        Answer::Bare(_) => at,
-        Answer::Number(n) => spaced(out, at, n),
-        Answer::Absent => put(out, at, b" -"),
-        Answer::Event(op) => event(out, at, op),
-        Answer::Compared(c) => comparison(out, at, c),
-        Answer::Cut => put(out, at, b" cut"),
-        Answer::Ids(first, second) => ids(out, at, first, second),
-        Answer::Pruned => put(out, at, b" pruned"),
+impl From<CausalFrontier> for Answer {
+    fn from(frontier: CausalFrontier) -> Answer {
+        Answer::Vector(Vector::from(frontier))
     }
 }
 
-// The line's end, and before it whether anything changed where nothing may.
-pub fn ended(out: &mut [u8], at: usize, is_changed: bool) -> usize {
-    if is_changed {
-        return put(out, at, b" CHANGED\n");
+impl From<Option<CausalFrontier>> for Answer {
+    fn from(frontier: Option<CausalFrontier>) -> Answer {
+        frontier.map_or(Answer::Absent, Answer::from)
     }
-    byte(out, at, b'\n')
 }
 
-// A whole line.
-pub fn told(out: &mut [u8], at: usize, a: Answer, is_changed: bool) -> usize {
-    let at = bare(out, at, first(a));
-    let at = rest(out, at, a);
-    ended(out, at, is_changed)
+// The answers that are not written yet.
+#[derive(Drop)]
+pub struct Output {
+    pub buffer: Buffer<65_536>,
 }
 
-// A whole line with a refusal number or 0 alone.
-pub fn refused(out: &mut [u8], at: usize, n: usize) -> usize {
-    told(out, at, Answer::Bare(n), false)
-}
-
-// So many numbers, each after a space.
-fn numbers(out: &mut [u8], at: usize, row: &[usize], n: usize) -> usize {
-    let mut at = at;
-    for i in 0..n {
-        at = spaced(out, at, entry(row, i));
+impl Output {
+    fn put(&mut self, bytes: &[u8]) {
+        self.buffer.put(bytes);
     }
-    at
-}
 
-// A whole line: 0 and a vector of so many numbers, or that there is none.
-pub fn vector(out: &mut [u8], at: usize, row: &[usize], n: usize) -> usize {
-    if n == 0 {
-        return told(out, at, Answer::Absent, false);
+    fn number(&mut self, n: u64) {
+        self.buffer.put_number(n);
     }
-    let at = bare(out, at, ACCEPTED);
-    let at = numbers(out, at, row, n);
-    byte(out, at, b'\n')
-}
 
-// A whole line: 0, a frontier and a number.
-pub fn counted(out: &mut [u8], at: usize, f: CausalFrontier, count: usize) -> usize {
-    let entries = f.entries();
-    let at = bare(out, at, ACCEPTED);
-    let at = numbers(out, at, &entries, f.len());
-    let at = spaced(out, at, count);
-    byte(out, at, b'\n')
-}
-
-// A whole line: a refusal number, or 0 and a frontier.
-pub fn frontier(out: &mut [u8], at: usize, refusal: usize, f: CausalFrontier) -> usize {
-    if refusal != ACCEPTED {
-        return refused(out, at, refusal);
+    // A mark and a number.
+    fn marked(&mut self, mark: u8, n: u64) {
+        self.put(&[mark]);
+        self.number(n);
     }
-    let entries = f.entries();
-    vector(out, at, &entries, f.len())
+
+    // A number after a space.
+    fn spaced(&mut self, n: usize) {
+        self.marked(b' ', n as u64);
+    }
+
+    // Each number after a space; a dash where there are none.
+    fn vector(&mut self, row: &[usize]) {
+        if row.is_empty() {
+            self.put(b" -");
+        }
+        for n in row {
+            self.spaced(*n);
+        }
+    }
+
+    fn disambiguator(&mut self, d: Disambiguator) {
+        match d {
+            Disambiguator::Absent => self.put(b":-"),
+            Disambiguator::Number(n) => self.marked(b':', u64::from(n)),
+        }
+    }
+
+    // An id after a space.
+    fn id(&mut self, id: EventId) {
+        self.spaced(id.idx.0);
+        self.marked(b':', id.seq as u64);
+        self.disambiguator(id.disambiguator);
+    }
+
+    // An event after a space.
+    fn event(&mut self, op: TaggedOp) {
+        self.id(op.id());
+        self.marked(b':', op.lamport());
+        self.marked(b':', op.op);
+        self.marked(b':', u64::from(op.revision));
+    }
+
+    fn comparison(&mut self, c: Option<Ordering>) {
+        self.put(match c {
+            Some(Ordering::Equal) => b" equal",
+            Some(Ordering::Greater) => b" above",
+            Some(Ordering::Less) => b" below",
+            None => b" beside",
+        });
+    }
+
+    // What an answer starts with: the refusal number, or 0.
+    pub fn begun<T: Copy>(&mut self, answer: Result<T, Refusal>) {
+        self.number(number_in(answer) as u64);
+    }
+
+    // What follows, after a space.
+    pub fn answer(&mut self, answer: Answer) {
+        match answer {
+            Answer::Nothing => {}
+            Answer::Number(n) => self.spaced(n),
+            Answer::Absent => self.put(b" -"),
+            Answer::Id(id) => self.id(id),
+            Answer::Event(op) => self.event(op),
+            Answer::Compared(c) => self.comparison(c),
+            Answer::Cut => self.put(b" cut"),
+            Answer::Ids(first, second) => {
+                self.id(first);
+                self.id(second);
+            }
+            Answer::Pruned => self.put(b" pruned"),
+            Answer::Vector(vector) => self.vector(vector.entries()),
+            Answer::Counted(vector, count) => {
+                self.vector(vector.entries());
+                self.spaced(count);
+            }
+        }
+    }
+
+    // A number after a slash.
+    pub fn slashed(&mut self, n: usize) {
+        self.marked(b'/', n as u64);
+    }
+
+    // The line's end, and before it whether anything changed where nothing may.
+    pub fn ended(&mut self, is_changed: bool) {
+        if is_changed {
+            self.put(b" CHANGED");
+        }
+        self.put(b"\n");
+    }
+
+    // A whole line.
+    pub fn told(&mut self, answer: Result<Answer, Refusal>, is_changed: bool) {
+        self.begun(answer);
+        if let Ok(answer) = answer {
+            self.answer(answer);
+        }
+        self.ended(is_changed);
+    }
 }

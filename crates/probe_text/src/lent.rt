@@ -1,6 +1,6 @@
 // Lent buffers and tables: filled before a call, and looked at after it.
-use clocks::refusal::{ACCEPTED, Listed};
-use numbers::wide;
+use crate::answers::{Answer, Output};
+use clocks::refusal::Refusal;
 
 // What a buffer is filled with before a call: no call answers it.
 pub const PATTERN: usize = 0xA5A5_5A5A_0F0F_3C3C;
@@ -8,61 +8,38 @@ pub const PATTERN: usize = 0xA5A5_5A5A_0F0F_3C3C;
 // The most entries of a lent buffer.
 pub const MOST_ROOM: usize = 1024;
 
-// Whether the part from a place on still has the pattern.
-pub fn is_kept(list: &[usize], from: usize) -> bool {
-    let mut i = from;
-    while i < list.len() {
-        if list[i] != PATTERN {
-            return false;
-        }
-        i += 1;
-    }
-    true
+// Whether a buffer still has the pattern.
+pub fn is_kept(list: &[usize]) -> bool {
+    list.iter().all(|n| *n == PATTERN)
 }
 
-// How many entries a list call wrote; none where it refused.
-pub fn count(listed: Listed) -> usize {
-    match listed {
-        Listed::Count(n) => n,
-        Listed::Refused(_) => 0,
-    }
+// A number that tells two contents of a table apart.
+pub fn digest<T, W: Fn(&T) -> u64>(table: &[T], word: W) -> u64
+    requires { W.IsAlwaysCallable word }
+{
+    table.iter().fold(1, |h: u64, x| h.rotate_left(7) ^ word(x))
 }
 
-// The refusal number of a list call, or 0.
-pub fn refusal(listed: Listed) -> usize {
-    match listed {
-        Listed::Count(_) => ACCEPTED,
-        Listed::Refused(r) => r,
-    }
+// What a list call wrote into the buffer, and the rest. Where it refused it is to have written nothing.
+pub fn written(list: &[usize], count: Result<usize, Refusal>) -> (&[usize], &[usize]) {
+    list.split_at(count.unwrap_or(0).min(list.len()))
 }
 
-fn mixed(h: u64, x: u64) -> u64 {
-    ((h << 7) | (h >> 57)) ^ x
-}
-
-// A number that tells two contents of a table of numbers apart.
-pub fn digest(table: &[usize]) -> u64 {
-    let mut h: u64 = 1;
-    for i in 0..table.len() {
-        h = mixed(h, wide(table[i]));
+// A list call with a buffer of `room` entries, and each entry that it wrote as the answer that it stands for.
+pub fn listed<C, E>(room: usize, out: &mut Output, call: C, entry: E)
+where
+    C: FnOnce(&mut [usize]) -> Result<usize, Refusal>,
+    E: Fn(usize) -> Answer,
+    requires call { C.IsAlwaysCallable call }
+    requires entry { E.IsAlwaysCallable entry }
+{
+    let mut list = [PATTERN; MOST_ROOM];
+    let list = &mut list[..room.min(MOST_ROOM)];
+    let count = call(list);
+    let (entries, rest) = written(list, count);
+    out.begun(count);
+    for k in entries {
+        out.answer(entry(*k));
     }
-    h
-}
-
-// The same of a table of words.
-pub fn words_digest(table: &[u64]) -> u64 {
-    let mut h: u64 = 1;
-    for i in 0..table.len() {
-        h = mixed(h, table[i]);
-    }
-    h
-}
-
-// The same of a table of row numbers, which are below 2^15.
-pub fn rows_digest(table: &[u16]) -> u64 {
-    let mut h: u64 = 1;
-    for i in 0..table.len() {
-        h = mixed(h, wide((table[i] % 0x8000) as usize));
-    }
-    h
+    out.ended(!is_kept(rest));
 }

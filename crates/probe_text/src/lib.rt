@@ -1,9 +1,7 @@
-// What the words of the line driver share: a line as tokens, the tables that say what may stand behind a word, and answer lines.
+// What the words of the line driver share: a line as a word and its arguments, answer lines, and the buffers that list calls are lent.
 #![tactic(auto)]
 
 pub mod answers;
+pub mod arguments;
 pub mod lent;
-pub mod parts;
 pub mod tokens;
-pub mod values;
-pub mod words;

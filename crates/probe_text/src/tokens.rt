@@ -1,92 +1,62 @@
-// A line as a word and the tokens behind it, each after one space: decimals, `-` and `|`. The tables are lent: a kind and a value for each.
-use text::bytes::{byte_at, find_byte};
-use text::number::{Number, read_number};
+// A line as a word and the tokens behind it, each after one space: decimals, `-` and `|`. The table of the tokens is lent.
+use crate::arguments::Arguments;
+use text::number::read_number;
 
-// A decimal, which has its value; a dash for an absent number; a bar between two vectors. What the rules do not allow has a kind that no word takes.
-pub const NUMBER: u8 = 1;
-
-pub const DASH: u8 = 2;
-
-pub const BAR: u8 = 3;
-
-const NO_TOKEN: u8 = 0;
+// A decimal, a dash for an absent number, a bar between two vectors, or what the rules do not allow: no word takes that, and it is the line's last.
+#[derive(Clone, Copy, Debug, PartialEq, Eq)]
+pub enum Token {
+    Number(usize),
+    Dash,
+    Bar,
+    Bad,
+}
 
 // A line of 4,096 bytes has fewer tokens behind its word: each takes two at least.
 pub const MOST_TOKENS: usize = 2048;
 
-// A kind, its value, and the place behind it.
-#[derive(Clone, Copy)]
-struct Token {
-    kind: u8,
-    value: usize,
-    next: usize,
+// A line taken apart.
+#[derive(Clone, Copy, Debug, PartialEq, Eq)]
+pub struct Line<'a> {
+    pub word: &'a [u8],
+    pub arguments: Arguments<'a>,
 }
 
-// What is no token is the line's last.
-fn no_token(line: &[u8]) -> Token {
-    Token {
-        kind: NO_TOKEN,
-        value: 0,
-        next: line.len(),
+// The decimal at the start, and what stands behind it.
+fn number(s: &[u8]) -> (Token, &[u8]) {
+    match read_number(s, 0) {
+        Some((n, next)) => (Token::Number(n as usize), s.get(next..).unwrap_or(&[])),
+        None => (Token::Bad, &[]),
     }
 }
 
-fn size(n: u64) -> usize {
-    n as usize
-}
-
-fn number_at(line: &[u8], at: usize) -> Token {
-    match read_number(line, at) {
-        Number::Value(n, next) => Token {
-            kind: NUMBER,
-            value: size(n),
-            next,
-        },
-        Number::Bad => no_token(line),
+// The token behind the space at the start, and what stands behind it.
+fn spaced(s: &[u8]) -> (Token, &[u8]) {
+    match s {
+        [b' ', b'-', rest @ ..] => (Token::Dash, rest),
+        [b' ', b'|', rest @ ..] => (Token::Bar, rest),
+        [b' ', rest @ ..] => number(rest),
+        _ => (Token::Bad, &[]),
     }
 }
 
-fn mark(kind: u8, at: usize) -> Token {
-    Token {
-        kind,
-        value: 0,
-        next: std::num::wrapping_add_usize(at, 1),
-    }
-}
-
-// The token at a place.
-fn token_at(line: &[u8], at: usize) -> Token {
-    match byte_at(line, at) {
-        b'-' => mark(DASH, at),
-        b'|' => mark(BAR, at),
-        _ => number_at(line, at),
-    }
-}
-
-// The token behind the space at a place.
-fn spaced_token(line: &[u8], at: usize) -> Token {
-    if byte_at(line, at) == b' ' {
-        return token_at(line, std::num::wrapping_add_usize(at, 1));
-    }
-    no_token(line)
-}
-
-// How many tokens stand behind the line's word, as far as the tables have room.
-pub fn parse(line: &[u8], kinds: &mut [u8], values: &mut [usize]) -> usize {
-    let mut at = find_byte(line, 0, b' ');
-    let mut n: usize = 0;
-    while n < kinds.len() {
-        if line.len() <= at {
-            return n;
+// How many tokens there are, as far as the table has room.
+fn read(s: &[u8], tokens: &mut [Token]) -> usize {
+    let mut rest = s;
+    for (i, token) in tokens.iter_mut().enumerate() {
+        if rest.is_empty() {
+            return i;
         }
-        if values.len() <= n {
-            return n;
-        }
-        let t = spaced_token(line, at);
-        kinds[n] = t.kind;
-        values[n] = t.value;
-        at = t.next;
-        n += 1;
+        (*token, rest) = spaced(rest);
     }
-    n
+    tokens.len()
+}
+
+// The line's word ends at the first space.
+pub fn parse<'a>(line: &'a [u8], tokens: &'a mut [Token]) -> Line<'a> {
+    let end = line.iter().position(|b| *b == b' ').unwrap_or(line.len());
+    let n = read(&line[end..], tokens);
+    Line {
+        word: &line[..end],
+        arguments: Arguments::new(tokens.get(..n).unwrap_or(&[])),
+    }
 }

@@ -1,5 +1,5 @@
 -- An advance is the flush at the frontier that it finds, which is not refused, or nothing: what flushes keep it keeps.
-use mathlib.Core.Bool.{Bool, true, false}
+use mathlib.Core.Bool.{true, false}
 use mathlib.Core.List.{List}
 use mathlib.Core.Logic.{⊎_elim}
 use mathlib.Core.Path.{◌≡◌, sym, ap, ◌∙◌}
@@ -7,13 +7,12 @@ use Prim.Native.Nat.{ℕ}
 use lib.ListN.{take}
 use Rattle.laws.proofs.Orders.{true-or-false}
 use Rattle.graph.specs.Whole.{EventGraph, Removed}
-use Rattle.graph.specs.Cuts.{greatest}
+use Rattle.graph.specs.Cuts.{FrontierFound, greatest}
 use Rattle.graph.specs.Removals.{removed, flushed}
 use Rattle.graph.specs.Advances.{advanced}
 use Rattle.graph.proofs.AdvanceLaws.{advance-answers, advance-none, advance-flushes}
 use Rattle.promises.specs.Reached.{Versions}
 use Rattle.promises.specs.Documented.{FlushesGreatest}
-use Rattle.graph.specs.declared.FrontierFound.{FrontierFound}
 use Rattle.promises.proofs.LogOk.{LogOk}
 
 module _ (g : EventGraph) (W : Versions) (ok : LogOk g W) (bound : List ℕ) where

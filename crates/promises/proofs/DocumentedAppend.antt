@@ -10,7 +10,7 @@ use Rattle.laws.proofs.Orders.{le-or-lt}
 use Rattle.clocks.proofs.Vectors.{well-formed-for}
 use Rattle.graph.specs.Whole.{EventGraph}
 use Rattle.graph.specs.Refusals.{refusal_of}
-use Rattle.graph.specs.Graphs.{pushed, appended}
+use Rattle.graph.specs.Graphs.{appended}
 use Rattle.graph.specs.Invariant.{NotesOk, revision_at, Siblings}
 use Rattle.graph.proofs.DescentLaws.{accepted-facts}
 use Rattle.graph.proofs.AppendNotes.{OneMore, push-one-more}

@@ -3,7 +3,7 @@ use mathlib.Core.Bool.{Bool, true, false, ◌&&◌, not}
 use mathlib.Core.List.{List}
 use mathlib.Core.Logic.{◌⊎◌, ◌↔◌, inl, inr, ⊎_elim}
 use mathlib.Core.Path.{◌≡◌, refl, sym, ap, ◌∙◌}
-use Prim.Native.Nat.{ℕ, zero, suc, ◌-◌, ◌<◌, ◌≤◌}
+use Prim.Native.Nat.{ℕ, zero, suc, ◌<◌, ◌≤◌}
 use native.Mathlib.Nat.{le_antisymm}
 use native.Mathlib.Omega.{arith}
 use lib.Dec.{ltb}

@@ -1,4 +1,4 @@
--- No second answer fits a contract: of every form that the contracts of `clocks`, `tables`, `history` and `graph` have, two answers that both fit are equal,
+-- No second answer fits a contract: of every form that the contracts of `clocks`, `tables` and `graph` have, two answers that both fit are equal,
 -- with what they leave in the lent buffers. docs/ANSWERS.md says for each public function which of these statements it is. Sets: OneAnswerSets.antt.
 use mathlib.Core.Bool.{Bool}
 use mathlib.Core.List.{List}
@@ -9,18 +9,12 @@ use lib.ListN.{length}
 use lib.Seq.{ext_get_or}
 use denote.Ref.{Bor}
 use Rattle.clocks.specs.Vectors.{entry}
+use Rattle.std.specs.Prelude.{Result}
 use Rattle.clocks.specs.Versions.{Depends}
-use Rattle.history.specs.Appends.{Appends}
-use Rattle.history.specs.Lists.{Lists}
-use Rattle.history.specs.Prunes.{Prunes, PrunesOr}
 use Rattle.tables.specs.Listing.{Writes, ListsIf}
-use Rattle.clocks.specs.declared.event.Event.{Event}
-use Rattle.clocks.specs.declared.refusal.Listed.{Listed}
+use Rattle.clocks.specs.declared.refusal.Refusal.{Refusal}
+use Rattle.clocks.proofs.Refusals.{refused-once}
 use Rattle.clocks.specs.declared.version_vector.Version.{Version}
-use Rattle.history.specs.Whole.{EventHistory, whole, small}
-use Rattle.history.specs.declared.event_history.HistoryAnswer.{HistoryAnswer}
-use Rattle.history.specs.declared.event_history.PruneAnswer.{PruneAnswer}
-use Rattle.history.specs.declared.event_history.Removed.{Removed}
 
 -- ---- the statement, of a contract P of the lifetimes, the arguments, the answer and the arguments' last values
 
@@ -44,6 +38,10 @@ abbrev pub OnceWith₃ : {K : Type 0} {A R S : K → Type 0} → ((κs : K) → 
 OnceWith₃ {K} {A} {R} {S} P b c d =
     (κs : K) (a : A κs) (x y : R κs) (s t : S κs) → P κs a x s → P κs a y t → (x ≡ y) × (b κs s ≡ b κs t) × (c κs s ≡ c κs t) × (d κs s ≡ d κs t)
 
+-- and what they leave in a value that is lent
+abbrev pub OnceLeaving : {K B : Type 0} {A R S : K → Type 0} → ((κs : K) → A κs → R κs → S κs → Type 0) → ((κs : K) → S κs → B) → Type 0
+OnceLeaving {K} {B} {A} {R} {S} P b = (κs : K) (a : A κs) (x y : R κs) (s t : S κs) → P κs a x s → P κs a y t → (x ≡ y) × (b κs s ≡ b κs t)
+
 -- ---- an equation with a definition: whatever the answer is, a number, a truth value, an enum, a struct, or the numbers of a lent slice
 
 pub one_answer : {A : Type 0} {d x y : A} → x ≡ d → y ≡ d → x ≡ y
@@ -57,53 +55,20 @@ one-array f n x y l m a b = ext_get_or 0 x y (l ∙ sym m) (λ i p. let q : i < 
 -- ---- clocks
 
 -- `dependencies`, with both buffers
-pub depends-once : {v : Version} {replicas seqs a b a' b' : List ℕ} {r r' : Listed}
+pub depends-once : {v : Version} {replicas seqs a b a' b' : List ℕ} {r r' : Result ℕ Refusal}
     → Depends v replicas seqs a b r → Depends v replicas seqs a' b' r' → (r ≡ r') × (a ≡ a') × (b ≡ b')
 depends-once p q = (one_answer p.answer q.answer, one_answer p.names q.names, one_answer p.sequences q.sequences)
-
--- ---- history
-
--- a list of rows, with the buffer
-pub rows-once : {number : ℕ} {rows out a a' : List ℕ} {r r' : Listed} → Lists number rows out a r → Lists number rows out a' r' → (r ≡ r') × (a ≡ a')
-rows-once p q = (one_answer p.answer q.answer, one_answer p.content q.content)
-
--- `append`, with the tables of versions and of notes
-pub appends-once : {h : EventHistory} {e : Event} {v versions notes boundaries a b a' b' : List ℕ} (r r' : HistoryAnswer) (index index' : List ℕ)
-    → Appends h e v versions notes boundaries a b r.refusal (whole r.history index)
-    → Appends h e v versions notes boundaries a' b' r'.refusal (whole r'.history index')
-    → (r ≡ r') × (index ≡ index') × (a ≡ a') × (b ≡ b')
-appends-once r r' index index' p q =
-    let n = one_answer p.number q.number in
-    let t = one_answer p.trace q.trace in
-    (λ i. record { refusal = n i; history = small (t i) }, λ i. (t i).index, one_answer p.row q.row, one_answer p.note q.note)
-
--- a removal, with the table of boundary versions
-pub prunes-once : {h : EventHistory} {to versions boundaries a a' : List ℕ} {r r' : Removed}
-    → Prunes h to versions boundaries a r → Prunes h to versions boundaries a' r' → (r ≡ r') × (a ≡ a')
-prunes-once p q =
-    let n = one_answer p.removed q.removed in
-    let t = one_answer p.trace q.trace in
-    (λ i. record { count = n i; history = small (t i) }, one_answer p.boundary q.boundary)
-
--- and one that may refuse
-pub prunes-or-once : {number : ℕ} {h : EventHistory} {to versions boundaries a a' : List ℕ} {r r' : PruneAnswer}
-    → PrunesOr number h to versions boundaries a r → PrunesOr number h to versions boundaries a' r' → (r ≡ r') × (a ≡ a')
-prunes-or-once p q =
-    let m = one_answer p.refused q.refused in
-    let n = one_answer p.removed q.removed in
-    let t = one_answer p.trace q.trace in
-    (λ i. record { refusal = m i; count = n i; history = small (t i) }, one_answer p.boundary q.boundary)
 
 -- ---- tables and graph
 
 -- a list of positions, or of lengths, with the buffer; `Lists` is `Writes` of the positions themselves
-pub writes-once : {t : ℕ → Bool} {f : ℕ → ℕ} {out a a' : List ℕ} {r r' : Listed} → Writes t f out a r → Writes t f out a' r' → (r ≡ r') × (a ≡ a')
+pub writes-once : {t : ℕ → Bool} {f : ℕ → ℕ} {out a a' : List ℕ} {r r' : Result ℕ Refusal} → Writes t f out a r → Writes t f out a' r' → (r ≡ r') × (a ≡ a')
 writes-once p q = (one_answer p.answer q.answer, one_answer p.list q.list)
 
 -- the same after a test
-pub lists-if-once : {number : ℕ} {t : ℕ → Bool} {out a a' : List ℕ} {r r' : Listed}
+pub lists-if-once : {number : ℕ} {t : ℕ → Bool} {out a a' : List ℕ} {r r' : Result ℕ Refusal}
     → ListsIf number t out a r → ListsIf number t out a' r' → (r ≡ r') × (a ≡ a')
-lists-if-once {number} p q = elim (ℕ_discrete number 0) [
+lists-if-once {number} {r} {r'} p q = elim (ℕ_discrete number 0) [
   | yes z ↦ writes-once (p.listed z) (q.listed z)
-  | no z ↦ let u = p.refused z in let w = q.refused z in (one_answer u.0 w.0, one_answer u.1 w.1)
+  | no z ↦ let u = p.refused z in let w = q.refused z in (refused-once number r r' z u.0 w.0, one_answer u.1 w.1)
 ]

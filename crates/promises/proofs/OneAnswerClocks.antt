@@ -9,20 +9,20 @@ use Rattle.clocks.proofs.vector.well_formed_for.Reads.{Post as well-formed-for}
 use Rattle.clocks.proofs.vector.at_most.Reads.{Post as at_most}
 use Rattle.clocks.proofs.vector.compare.Reads.{Post as compare}
 use Rattle.clocks.proofs.vector.sum.Reads.{Post as sum}
-use Rattle.clocks.proofs.id.Disambiguator.eq.Reads.{Post as disambiguator-eq}
-use Rattle.clocks.proofs.id.Disambiguator.is_below.Reads.{Post as disambiguator-is-below}
+use Rattle.clocks.proofs.id.DisambiguatorPartialEq.eq.Reads.{Post as disambiguator-eq}
+use Rattle.clocks.proofs.id.DisambiguatorPartialOrd.partial_cmp.Reads.{Post as disambiguator-partial-cmp}
 use Rattle.clocks.proofs.id.code_of.Reads.{Post as code-of}
 use Rattle.clocks.proofs.id.decoded.Reads.{Post as decoded}
 use Rattle.clocks.proofs.id.EventId.new.Reads.{Post as id-new}
 use Rattle.clocks.proofs.id.EventId.new_with_disambiguator.Reads.{Post as id-new-with-disambiguator}
 use Rattle.clocks.proofs.id.EventId.with_disambiguator.Reads.{Post as id-with-disambiguator}
-use Rattle.clocks.proofs.id.EventId.eq.Reads.{Post as id-eq}
+use Rattle.clocks.proofs.id.EventIdPartialEq.eq.Reads.{Post as id-eq}
 use Rattle.clocks.proofs.id.EventId.is_predecessor_of.Reads.{Post as id-is-predecessor-of}
 use Rattle.clocks.proofs.event.Event.new.Reads.{Post as event-new}
 use Rattle.clocks.proofs.event.Event.unfold.Reads.{Post as event-unfold}
 use Rattle.clocks.proofs.event.Event.unfold_with_disambiguator.Reads.{Post as event-unfold-with-disambiguator}
 use Rattle.clocks.proofs.tagged_op.TaggedOp.new.Reads.{Post as tagged-new}
-use Rattle.clocks.proofs.tagged_op.TaggedOp.from_event.Reads.{Post as tagged-from-event}
+use Rattle.clocks.proofs.tagged_op.TaggedOpFromEvent.from.Reads.{Post as tagged-from-event}
 use Rattle.clocks.proofs.tagged_op.TaggedOp.id.Reads.{Post as tagged-id}
 use Rattle.clocks.proofs.tagged_op.TaggedOp.lamport.Reads.{Post as tagged-lamport}
 use Rattle.clocks.proofs.causal_frontier.joined_entries.Reads.{Post as joined-entries}
@@ -45,7 +45,7 @@ use Rattle.clocks.proofs.causal_frontier.CausalFrontier.join.Reads.{Post as fron
 use Rattle.clocks.proofs.causal_frontier.CausalFrontier.meet.Reads.{Post as frontier-meet}
 use Rattle.clocks.proofs.causal_frontier.CausalFrontier.contains.Reads.{Post as frontier-contains}
 use Rattle.clocks.proofs.causal_frontier.CausalFrontier.partial_cmp.Reads.{Post as frontier-partial-cmp}
-use Rattle.clocks.proofs.causal_frontier.CausalFrontier.eq.Reads.{Post as frontier-eq}
+use Rattle.clocks.proofs.causal_frontier.CausalFrontierPartialEq.eq.Reads.{Post as frontier-eq}
 use Rattle.clocks.proofs.version_vector.includes_frontier.Reads.{Post as includes-frontier}
 use Rattle.clocks.proofs.version_vector.Version.new.Reads.{Post as version-new}
 use Rattle.clocks.proofs.version_vector.Version.from_frontier.Reads.{Post as version-from-frontier}
@@ -62,12 +62,14 @@ use Rattle.clocks.proofs.version_vector.Version.includes_frontier.Reads.{Post as
 use Rattle.clocks.proofs.version_vector.Version.increment.Reads.{Post as version-increment}
 use Rattle.clocks.proofs.version_vector.Version.join.Reads.{Post as version-join}
 use Rattle.clocks.proofs.version_vector.Version.meet.Reads.{Post as version-meet}
-use Rattle.clocks.proofs.version_vector.Version.eq.Reads.{Post as version-eq}
+use Rattle.clocks.proofs.version_vector.VersionPartialEq.eq.Reads.{Post as version-eq}
 use Rattle.clocks.proofs.version_vector.Version.dependencies.Reads.{Post as version-dependencies}
-use Rattle.clocks.proofs.in_place.set_lent.Reads.{Post as set-lent}
 use Rattle.clocks.specs.Frontiers.{SetInPlace}
 use Rattle.clocks.specs.declared.causal_frontier.CausalFrontier.{CausalFrontier}
-use Rattle.promises.proofs.OneAnswer.{one_answer, depends-once, Once, OnceWith₂}
+use Rattle.clocks.proofs.Refusals.{same-answer}
+use Rattle.clocks.proofs.Frontiers.{made-tells, answered-tells}
+use Rattle.clocks.proofs.Versions.{made_v-tells, answered_v-tells}
+use Rattle.promises.proofs.OneAnswer.{one_answer, depends-once, Once, OnceWith₂, OnceLeaving}
 
 -- ---- vectors
 
@@ -97,8 +99,8 @@ sum-once κs a x y s t p q = one_answer p q
 pub disambiguator-eq-once : Once disambiguator-eq
 disambiguator-eq-once κs a x y s t p q = one_answer p q
 
-pub disambiguator-is-below-once : Once disambiguator-is-below
-disambiguator-is-below-once κs a x y s t p q = one_answer p q
+pub disambiguator-partial-cmp-once : Once disambiguator-partial-cmp
+disambiguator-partial-cmp-once κs a x y s t p q = one_answer p q
 
 pub code-of-once : Once code-of
 code-of-once κs a x y s t p q = one_answer p q
@@ -160,10 +162,10 @@ pub with-entry-once : Once with-entry
 with-entry-once κs a x y s t p q = one_answer p q
 
 pub frontier-new-once : Once frontier-new
-frontier-new-once κs a x y s t p q = one_answer p q
+frontier-new-once κs a x y s t p q = made-tells x y (one_answer p q)
 
 pub frontier-from-entries-once : Once frontier-from-entries
-frontier-from-entries-once κs a x y s t p q = one_answer p q
+frontier-from-entries-once κs a x y s t p q = made-tells x y (one_answer p q)
 
 pub frontier-zeroed-once : Once frontier-zeroed
 frontier-zeroed-once κs a x y s t p q = one_answer p q
@@ -180,14 +182,14 @@ frontier-entries-once κs a x y s t p q = one_answer p q
 pub frontier-seq-by-idx-once : Once frontier-seq-by-idx
 frontier-seq-by-idx-once κs a x y s t p q = one_answer p q
 
-pub frontier-set-by-idx-once : Once frontier-set-by-idx
-frontier-set-by-idx-once κs a x y s t p q = one_answer p q
+pub frontier-set-by-idx-once : OnceLeaving frontier-set-by-idx (λ κs s. s.0.now)
+frontier-set-by-idx-once κs a x y s t p q = (same-answer x y (one_answer p.refusal q.refusal), one_answer p.frontier q.frontier)
 
 pub frontier-sum-once : Once frontier-sum
 frontier-sum-once κs a x y s t p q = one_answer p q
 
-pub frontier-join-version-once : Once frontier-join-version
-frontier-join-version-once κs a x y s t p q = one_answer p q
+pub frontier-join-version-once : OnceLeaving frontier-join-version (λ κs s. s.0.now)
+frontier-join-version-once κs a x y s t p q = answered-tells x y s.0.now t.0.now (one_answer p q)
 
 pub frontier-raised-once : Once frontier-raised
 frontier-raised-once κs a x y s t p q = one_answer p q
@@ -215,7 +217,7 @@ includes-frontier-once κs a x y s t p q = one_answer p q
 -- ---- a version
 
 pub version-new-once : Once version-new
-version-new-once κs a x y s t p q = one_answer p q
+version-new-once κs a x y s t p q = made_v-tells a.0 x y (one_answer p q)
 
 pub version-from-frontier-once : Once version-from-frontier
 version-from-frontier-once κs a x y s t p q = one_answer p q
@@ -241,8 +243,8 @@ version-is-empty-once κs a x y s t p q = one_answer p q
 pub version-seq-by-idx-once : Once version-seq-by-idx
 version-seq-by-idx-once κs a x y s t p q = one_answer p q
 
-pub version-set-by-idx-once : Once version-set-by-idx
-version-set-by-idx-once κs a x y s t p q = one_answer p q
+pub version-set-by-idx-once : OnceLeaving version-set-by-idx (λ κs s. s.0.now)
+version-set-by-idx-once κs a x y s t p q = answered_v-tells x y s.0.now t.0.now (one_answer p q)
 
 pub version-sum-once : Once version-sum
 version-sum-once κs a x y s t p q = one_answer p q
@@ -250,11 +252,11 @@ version-sum-once κs a x y s t p q = one_answer p q
 pub version-includes-frontier-once : Once version-includes-frontier
 version-includes-frontier-once κs a x y s t p q = one_answer p q
 
-pub version-increment-once : Once version-increment
-version-increment-once κs a x y s t p q = one_answer p q
+pub version-increment-once : OnceLeaving version-increment (λ κs s. s.0.now)
+version-increment-once κs a x y s t p q = answered_v-tells x y s.0.now t.0.now (one_answer p q)
 
-pub version-join-once : Once version-join
-version-join-once κs a x y s t p q = one_answer p q
+pub version-join-once : OnceLeaving version-join (λ κs s. s.0.now)
+version-join-once κs a x y s t p q = answered_v-tells x y s.0.now t.0.now (one_answer p q)
 
 pub version-meet-once : Once version-meet
 version-meet-once κs a x y s t p q = one_answer p q
@@ -267,10 +269,7 @@ version-dependencies-once κs a x y s t p q = depends-once p q
 
 -- ---- in the caller's frontier
 
-pub set-lent-once : Once set-lent
-set-lent-once κs a x y s t p q = one_answer p q
-
--- of the contract of `set_by_idx` over a reference, the number and the frontier after the call
+-- of the contract of a frontier's `set_by_idx`, the number and the frontier after the call
 pub set-in-place-once : (f after after' : CausalFrontier) (i value r r' : ℕ) → SetInPlace f i value r after → SetInPlace f i value r' after' → (r ≡ r') × (after ≡ after')
 set-in-place-once f after after' i value r r' p q = (one_answer p.refusal q.refusal, one_answer p.frontier q.frontier)
 
@@ -279,5 +278,5 @@ set-in-place-once f after after' i value r r' p q = (one_answer p.refusal q.refu
 pub is-bad-raise-once : Once is-bad-raise
 is-bad-raise-once κs a x y s t p q = one_answer p q
 
-pub frontier-raise-once : Once frontier-raise
-frontier-raise-once κs a x y s t p q = one_answer p q
+pub frontier-raise-once : OnceLeaving frontier-raise (λ κs s. s.0.now)
+frontier-raise-once κs a x y s t p q = answered-tells x y s.0.now t.0.now (one_answer p q)

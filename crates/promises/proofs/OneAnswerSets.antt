@@ -4,7 +4,8 @@ use mathlib.Core.Bool.{and-false, Bool, true, false, false≢true}
 use mathlib.Core.List.{List, [], ◌∷◌}
 use mathlib.Core.Logic.{⊎_elim}
 use mathlib.Core.Path.{◌≡◌, refl, sym, ap, ◌∙◌}
-use Prim.Native.Nat.{ℕ, zero, suc, ◌+◌, ◌-◌, ◌*◌, ◌/◌, ◌%◌, ◌^◌, ◌<◌, ◌≤◌}
+use Rattle.std.specs.Prelude.{Option, Some, None}
+use Prim.Native.Nat.{ℕ, zero, suc, ◌+◌, ◌*◌, ◌/◌, ◌%◌, ◌^◌, ◌<◌, ◌≤◌}
 use native.Mathlib.Nat.{le_antisymm}
 use native.Mathlib.Omega.{arith}
 use lib.Dec.{ltb}
@@ -22,8 +23,7 @@ use Rattle.positions.proofs.Words.{none}
 use Rattle.positions.proofs.Members.{ext-positions}
 use Rattle.tables.specs.Slots.{Reaches}
 use Rattle.positions.specs.declared.Positions.{Positions}
-use Rattle.positions.specs.declared.Highest.{Highest}
-use Rattle.positions.specs.declared.Highest.TheVariants.{At, Nothing}
+use Rattle.positions.specs.declared.NodeIndex.{NodeIndex}
 use Rattle.positions.specs.declared.Compaction.{Compaction}
 use Rattle.promises.proofs.OneAnswer.{one_answer}
 
@@ -89,13 +89,13 @@ pub missing-once : {p : Positions} {r r' : ℕ} → FirstMissing p r → FirstMi
 missing-once {p} {r} {r'} a b = neither r r' (λ l. clash (b.before r l) a.missing) (λ l. clash (a.before r' l) b.missing)
 
 -- `highest_below`
-pub highest-once : (p : Positions) (n : ℕ) (r r' : Highest) → IsHighest p n r → IsHighest p n r' → r ≡ r'
-highest-once p n (At i) (At k) a b =
+pub highest-once : (p : Positions) (n : ℕ) (r r' : Option NodeIndex) → IsHighest p n r → IsHighest p n r' → r ≡ r'
+highest-once p n (Some i) (Some k) a b =
     let e = neither i.0 k.0 (λ l. clash b.inside (a.above k.0 l b.under)) (λ l. clash a.inside (b.above i.0 l a.under)) in
-    λ t. At (record { 0 = e t })
-highest-once p n (At i) Nothing a b = absurd (clash a.inside (b i.0 a.under))
-highest-once p n Nothing (At k) a b = absurd (clash b.inside (a k.0 b.under))
-highest-once p n Nothing Nothing a b = refl
+    λ t. Some (record { 0 = e t })
+highest-once p n (Some i) None a b = absurd (clash a.inside (b i.0 a.under))
+highest-once p n None (Some k) a b = absurd (clash b.inside (a k.0 b.under))
+highest-once p n None None a b = refl
 
 -- `reach` of `tables`: of two that fit, neither is below the other
 reaches-at : {cov : ℕ → Bool} {m n : ℕ} → Reaches cov m → Reaches cov n → m < n → ⊥

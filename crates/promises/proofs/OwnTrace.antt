@@ -9,6 +9,7 @@ use native.Mathlib.Omega.{arith}
 use lib.Dec.{eqb}
 use lib.ListN.{length, get_or}
 use borrow.Author.Tests.{eq-eqb, eqb-true}
+use Rattle.std.specs.Prelude.{Some, Result}
 use Rattle.laws.proofs.Orders.{true-or-false}
 use Rattle.laws.proofs.Lists.{length-tabulate, get_or-tabulate}
 use Rattle.history.specs.Whole.{EventHistory}
@@ -22,14 +23,14 @@ use Rattle.history.proofs.Tables.{length-version}
 use Rattle.history.proofs.Rooms.{given-in}
 use Rattle.history.proofs.Appends.{Accepted, accepted-tells}
 use Rattle.history.proofs.Histories.{append-ok}
+use Rattle.clocks.proofs.Refusals.{count-once}
 use Rattle.history.proofs.Lists.{range-held}
 use Rattle.history.proofs.Own.{SameTrace, same-held, same-last, ButFull, append-own-but, few-own, append-other}
 use Rattle.history.proofs.Notes.{append-notes, kept-note, event-at-row}
 use Rattle.clocks.specs.declared.event.Event.{Event}
 use Rattle.clocks.specs.declared.id.EventId.{EventId}
 use Rattle.clocks.specs.declared.id.Disambiguator.{Disambiguator}
-use Rattle.clocks.specs.declared.refusal.Listed.{Listed}
-use Rattle.history.specs.declared.event_history.Found.TheVariants.{Op}
+use Rattle.clocks.specs.declared.refusal.Refusal.{Refusal}
 
 -- an id of desk r
 abbrev pub of : ℕ → ℕ → Disambiguator → EventId
@@ -47,7 +48,7 @@ pub record OwnAnswers (h : EventHistory) (notes versions boundaries : List ℕ) 
   pub version : (s : ℕ) (d : Disambiguator) → version_of h notes versions (of r s d) ≡ version_of g notes' versions' (of r s d)
   pub last : last_version h versions boundaries r ≡ last_version g versions' boundaries' r
   pub refused : (start end : ℕ) → range_refusal h r start end ≡ range_refusal g r start end
-  pub counted : (start end : ℕ) (out a b : List ℕ) (x y : Listed) → Lists (range_refusal h r start end) (span h.index r start (end - start)) out a x
+  pub counted : (start end : ℕ) (out a b : List ℕ) (x y : Result ℕ Refusal) → Lists (range_refusal h r start end) (span h.index r start (end - start)) out a x
       → Lists (range_refusal g r start end) (span g.index r start (end - start)) out b y → x ≡ y
   pub events : (start end k : ℕ) → range_refusal h r start end ≡ 0 → k < end - start
       → event_at h notes (get_or (span h.index r start (end - start)) k 0) ≡ event_at g notes' (get_or (span g.index r start (end - start)) k 0)
@@ -87,13 +88,14 @@ module _ {h g : EventHistory} {notes versions boundaries notes' versions' bounda
   range_same start end = rw (m.trace.size, m.trace.pruned, m.trace.last)
 
   -- as many rows, whichever they are
-  counted_same : (start end : ℕ) (out a b : List ℕ) (x y : Listed) → Lists (range_refusal h r start end) (span h.index r start (end - start)) out a x
+  counted_same : (start end : ℕ) (out a b : List ℕ) (x y : Result ℕ Refusal) → Lists (range_refusal h r start end) (span h.index r start (end - start)) out a x
       → Lists (range_refusal g r start end) (span g.index r start (end - start)) out b y → x ≡ y
   counted_same start end out a b x y p q =
-      rw (range_same start end, length-tabulate) at p.answer ∙ sym (rw length-tabulate at q.answer)
+      count-once x y _ _ (rw (range_same start end, length-tabulate) at p.answer ∙ sym (rw length-tabulate at q.answer))
+      (length-tabulate _ (end - start) ∙ sym (length-tabulate _ (end - start))) p.count q.count
 
   row_same : (s : ℕ) → held h r s ≡ true → event_at h notes (row_of h r s) ≡ event_at g notes' (row_of g r s)
-  row_same s e = event-at-row h notes r s n e ∙ (ap Op (m.texts s e) ∙ sym (event-at-row g notes' r s n' (also s e)))
+  row_same s e = event-at-row h notes r s n e ∙ (ap Some (m.texts s e) ∙ sym (event-at-row g notes' r s n' (also s e)))
 
   listed_same : (start end k : ℕ) → range_refusal h r start end ≡ 0 → k < end - start
       → event_at h notes (get_or (span h.index r start (end - start)) k 0) ≡ event_at g notes' (get_or (span g.index r start (end - start)) k 0)

@@ -8,6 +8,7 @@ use native.Mathlib.Decide.{ℕ_discrete}
 use native.Mathlib.Omega.{arith}
 use lib.Dec.{ltb, eqb}
 use borrow.Author.Tests.{ltb-true, eqb-true}
+use Rattle.std.specs.Prelude.{Option, Some, None}
 use Rattle.laws.specs.Counting.{pick}
 use Rattle.laws.proofs.Orders.{true-or-false}
 use Rattle.clocks.proofs.Vectors.{well-formed-for}
@@ -32,7 +33,6 @@ use Rattle.clocks.specs.declared.id.Disambiguator.{Disambiguator}
 use Rattle.clocks.specs.declared.id.Disambiguator.TheVariants.{Absent, Number}
 use Rattle.clocks.specs.declared.id.EventId.{EventId}
 use Rattle.clocks.specs.declared.tagged_op.TaggedOp.{TaggedOp}
-use Rattle.graph.specs.declared.Found.TheVariants.{Op, NotFound}
 use Rattle.promises.proofs.AdvanceLog.{advance-is}
 use Rattle.promises.proofs.ReachedLog.{reached-ok, created-held, checkpointed-held}
 use Rattle.promises.proofs.Matching.{told}
@@ -103,14 +103,14 @@ decoded-small (suc c) = omega arith
 
 -- ---- the event at a position is the one in that slot
 
-stands_at : (g : EventGraph) (k : ℕ) (e : TaggedOp) → event_at g k ≡ Op e → (k < g.held) × ((op_at g k).tag.id ≡ e.tag.id)
+stands_at : (g : EventGraph) (k : ℕ) (e : TaggedOp) → event_at g k ≡ Some e → (k < g.held) × ((op_at g k).tag.id ≡ e.tag.id)
 unfolding event_at
 stands_at g k e h = by (ltb k g.held) (ltb k 256) refl h
   where
-    by : (s t : Bool) → ltb k g.held ≡ s → pick (s && t) (Op (op_at g k)) NotFound ≡ Op e → (k < g.held) × ((op_at g k).tag.id ≡ e.tag.id)
+    by : (s t : Bool) → ltb k g.held ≡ s → ◌≡◌ {A = Option TaggedOp} (pick (s && t) (Some (op_at g k)) None) (Some e) → (k < g.held) × ((op_at g k).tag.id ≡ e.tag.id)
     by true true q r = let z : op_at g k ≡ e = cc in (ltb-true k g.held q, ap (λ (x : TaggedOp). x.tag.id) z)
-    by true false q r = let z : ◌≡◌ {A = ℕ} 0 1 = cc in absurd (omega arith)
-    by false t q r = let z : ◌≡◌ {A = ℕ} 0 1 = cc in absurd (omega arith)
+    by true false q r = absurd cc
+    by false t q r = absurd cc
 
 module _ (g : EventGraph) (notes : NotesOk g) (coded : Coded g) where
   small : (k : ℕ) → k < g.held → SmallId (op_at g k).tag.id

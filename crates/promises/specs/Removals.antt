@@ -1,7 +1,7 @@
 -- Document 02, P13: the promise survives removals. Two logs with the same desks and starting checkpoint that append, flush, advance, raise, remove and retain,
 -- and never clear: if they accepted the same notes, their last flushed frontier is the same, or neither flushed, and they hold the same notes at the end, each
 -- last accepted with the same version in both, then they agree as in demand 3. Vectors and starts are the same as there, and both logs end with the same R.
-use Rattle.std.specs.Prelude.{List, [], ◌∷◌, ◌≡◌, ℕ, ◌<◌, eqb, take}
+use Rattle.std.specs.Prelude.{List, [], ◌∷◌, ℕ, ◌<◌, eqb, take}
 use Rattle.laws.specs.Counting.{pick}
 use Rattle.graph.specs.Whole.{EventGraph}
 use Rattle.graph.specs.Graphs.{appended}

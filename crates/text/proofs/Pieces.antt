@@ -4,17 +4,17 @@ use mathlib.Core.List.{List, [], append-nil}
 use mathlib.Core.Logic.{⊎_elim}
 use mathlib.Core.Path.{◌≡◌, sym, ◌∙◌}
 use Prim.Native.Nat.{ℕ, ◌+◌, ◌-◌, ◌≤◌, ◌<◌, min}
-use native.Mathlib.Nat.{min-eq_left, min-eq_right, min-le_left, le_of_lt, add-zero}
+use native.Mathlib.Nat.{min-eq_left, min-eq_right, min-le_left, le_of_lt}
 use native.Mathlib.Numerals.{add-one}
 use native.Mathlib.Omega.{arith}
-use lib.ListN.{length, take, drop, drop_of_length-le, length-take, length-drop, take-append-drop}
-use lib.Seq.{take_all, take-take, take-nil}
+use lib.ListN.{length, take, drop, drop_of_length-le, length-take, length-drop}
+use lib.Seq.{take_all, take-take}
 use borrow.Author.Tests.{lt-ltb, le-ltb}
 use Rattle.laws.proofs.Orders.{le-or-lt}
-use Rattle.text.specs.Lines.{before_newline, held_after, line_bytes, stored_at, took_answer, Took}
+use Rattle.text.specs.Lines.{before_newline, held_after, line_bytes, stored_at, Took}
 use Rattle.text.specs.Bytes.{placed}
 use Rattle.text.specs.declared.lines.Held.{Held}
-use Rattle.text.proofs.Before.{before-none, before-le}
+use Rattle.text.proofs.Before.{before-le}
 use Rattle.text.proofs.Placing.{placed-in, placed-out}
 
 -- a line that does not fit any more
@@ -73,27 +73,8 @@ stored-as-told line n piece at m e = ⊎_elim part whole (le-or-lt (length line 
         let q : m ≡ before_newline (drop at piece) = e ∙ min-eq_left (le_of_lt p) in
         rw q (stored-whole line n (line_bytes piece at) (omega (arith, length-line piece at)))
 
--- a piece that is used up gives nothing
-pub feed-none : (line : List ℕ) (held : Held) (piece : List ℕ) (at end : ℕ) (after : Held) → length piece ≤ at → end ≡ at + before_newline (drop at piece)
-    → after ≡ held_after (length line) held (end - at) → Took line held piece at line (record { held = after; next = at; complete = false })
-feed-none line held piece at end after h e a = record { stored = stored; answer = answer; forward = λ p. absurd (omega arith); within = within }
-  where
-    z : before_newline (drop at piece) ≡ 0
-    z = before-none 10 piece at h
-
-    stored : line ≡ stored_at line held.len (line_bytes piece at)
-    stored = rw (z, take-nil, add-zero, append-nil) (sym (take-append-drop held.len line))
-
-    answer : record { held = after; next = at; complete = false } ≡ took_answer (length line) held piece at
-    answer =
-        let k : end - at ≡ 0 = omega (arith, e, z) in
-        rw (a, k, z, add-zero held.len, add-zero at, le-ltb at (length piece) h)
-
-    within : after.len ≤ length line
-    within = rw a (min-le_left (length line) (held.len + (end - at)))
-
 -- a piece in which the line ends, and one in which it does not
-module _ (line : List ℕ) (held : Held) (piece : List ℕ) (at end m : ℕ) (after : Held) (exit : List ℕ) (h : at < length piece) (e : end ≡ at + before_newline (drop at piece))
+module _ (line : List ℕ) (held : Held) (piece : List ℕ) (at end m : ℕ) (after : Held) (exit : List ℕ) (e : end ≡ at + before_newline (drop at piece))
     (a : after ≡ held_after (length line) held (end - at)) (q : m ≡ min (end - at) (length line - held.len)) (s : exit ≡ placed line held.len (take m (drop at piece))) where
   count : end - at ≡ before_newline (drop at piece)
   count = omega (arith, e)

@@ -13,7 +13,7 @@ use borrow.Author.Tests.{lt-ltb, le-ltb, le-leb, ne_eqb}
 use Rattle.laws.proofs.Orders.{le-or-lt}
 use Rattle.laws.specs.Counting.{pick}
 use Rattle.text.specs.Numbers.{is_digit, digits_in, value_from, number_at, places_up_to, places, last_digits, spelled}
-use Rattle.text.specs.declared.number.Number.TheVariants.{Value}
+use Rattle.std.proofs.Common.{Some}
 use Rattle.text.proofs.Spelling.{length_last, places-last, places-more}
 
 -- what is written for a digit is read as one
@@ -94,7 +94,7 @@ plain-spelled n rest h = ⊎_elim one more (le-or-lt n 9)
         rw (lt-ltb 0 (places_up_to 20 n) (omega (arith, (places-more 20 n l (omega arith)).2)), ne_eqb (get_or (last_digits (places_up_to 20 n) n ++ rest) 0 0) 48 f, or-true)
 
 pub read_back : (before rest : List ℕ) (n : ℕ) → n < 2 ^ 64 → digits_in rest ≡ 0
-    → number_at (before ++ (spelled n ++ rest)) (length before) ≡ Value n (length before + length (spelled n))
+    → number_at (before ++ (spelled n ++ rest)) (length before) ≡ Some (n, length before + length (spelled n))
 unfolding number_at spelled
 read_back before rest n h z =
     let d : digits_in (last_digits (places n) n ++ rest) ≡ places n = digits_last (places n) n rest ∙ omega (arith, z) in

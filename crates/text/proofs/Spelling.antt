@@ -13,7 +13,7 @@ use Rattle.laws.specs.Counting.{pick}
 use Rattle.text.specs.Numbers.{places_up_to, places, last_digits, spelled}
 use Rattle.text.specs.Inner.{written_back}
 use Rattle.text.specs.Bytes.{placed, placed_end}
-use Rattle.text.proofs.Placing.{placed-in}
+use Rattle.text.proofs.Placing.{placed-in, placed-out}
 
 -- a number of one digit
 pub places-last : (most r : ℕ) → 0 < most → r ≤ 9 → places_up_to most r ≡ 1
@@ -87,3 +87,7 @@ written-spelled out at n h =
       ap (λ (k : ℕ). at + k) (sym e) ∙ p.0,
       written_back_lem out at (places n) n h ∙ ap (λ (k : ℕ). take at out ++ last_digits (places n) n ++ drop (at + k) out) (sym e) ∙ p.1,
     )
+
+-- and where there is no room for it
+pub spelled-out : (out : List ℕ) (at n : ℕ) → length out < at + places n → (at ≡ placed_end out at (spelled n)) × (out ≡ placed out at (spelled n))
+spelled-out out at n h = placed-out out at (spelled n) (omega (arith, length-spelled n))

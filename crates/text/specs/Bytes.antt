@@ -23,3 +23,12 @@ bytes_before b (c ∷ s) = pick (eqb c b) 0 (suc (bytes_before b s))
 pub record Same (a b : List ℕ) (r : Bool) : Type 0 where
   pub sound : r ≡ true → a ≡ b
   pub complete : a ≡ b → r ≡ true
+
+-- a buffer and how many of its bytes are collected
+pub record Collected : Type 0 where
+  pub bytes : List ℕ
+  pub len : ℕ
+
+-- with these bytes behind those that are collected; as it is where they do not fit
+abbrev pub with_put : Collected → List ℕ → Collected
+with_put b bytes = record { bytes = placed b.bytes b.len bytes; len = placed_end b.bytes b.len bytes }

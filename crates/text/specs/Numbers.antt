@@ -1,8 +1,6 @@
 -- Numbers in text. Document 01, The listing program: decimals without sign or leading zeros, below 2^64.
-use Rattle.std.specs.Prelude.{Bool, ◌&&◌, ◌||◌, not, List, [], ◌∷◌, ◌++◌, ℕ, zero, suc, ◌+◌, ◌*◌, ◌-◌, ◌/◌, ◌%◌, ◌^◌, ltb, leb, eqb, drop, get_or}
+use Rattle.std.specs.Prelude.{Bool, ◌&&◌, ◌||◌, not, List, [], ◌∷◌, ◌++◌, Option, Some, None, ℕ, zero, suc, ◌+◌, ◌*◌, ◌-◌, ◌/◌, ◌%◌, ◌^◌, ltb, leb, eqb, drop, get_or}
 use Rattle.laws.specs.Counting.{pick}
-use Rattle.text.specs.declared.number.Number.{Number}
-use Rattle.text.specs.declared.number.Number.TheVariants.{Value, Bad}
 
 -- `0` is byte 48 and `9` is byte 57
 abbrev pub is_digit : ℕ → Bool
@@ -23,11 +21,11 @@ abbrev pub plain : List ℕ → Bool
 plain s = ltb 0 (digits_in s) && (eqb (digits_in s) 1 || not (eqb (get_or s 0 0) 48))
 
 -- the number that stands at a place, with the place behind it
-unfoldable pub number_at : List ℕ → ℕ → Number
+unfoldable pub number_at : List ℕ → ℕ → Option (ℕ × ℕ)
 number_at s at =
     pick (plain (drop at s) && ltb (value_from 0 (drop at s)) (2 ^ 64))
-    (Value (value_from 0 (drop at s)) (at + digits_in (drop at s)))
-    Bad
+    (Some (value_from 0 (drop at s), at + digits_in (drop at s)))
+    None
 
 -- how many digits n has, up to a limit
 unfoldable pub places_up_to : ℕ → ℕ → ℕ

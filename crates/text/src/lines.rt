@@ -2,18 +2,18 @@
 ghost use Rattle.std.specs.Prelude.{◌≡◌, false};
 ghost use Rattle.text.specs.Lines.{held_after, Took};
 
-use crate::bytes::{find_byte, put};
-use numbers::{less, smaller};
+use crate::bytes::{find_byte, put, tail};
 
 // What the line buffer holds: so many bytes of the current line, or the first of a line that is longer than the buffer.
-#[derive(Clone, Copy)]
+// A flag beside the number, and no variant: an overlong line fills the buffer, so both count on with one sum.
+#[derive(Clone, Copy, Debug, PartialEq, Eq)]
 pub struct Held {
     pub len: usize,
     pub overlong: bool,
 }
 
-// What a piece gave: the state, the place to go on at, and whether the line came to its newline.
-#[derive(Clone, Copy)]
+// What a piece gave: the state, the place to go on at, and whether the line came to its newline. A plain truth value: nothing is there or not by it.
+#[derive(Clone, Copy, Debug, PartialEq, Eq)]
 pub struct Taken {
     pub held: Held,
     pub next: usize,
@@ -34,22 +34,15 @@ pub fn fresh() -> Held
 fn settled(limit: usize, held: Held, count: usize) -> Held
     ensures { result ≡ held_after limit held count }
 {
-    let len = held.len;
-    if limit < len {
-        return Held {
+    match held.len.checked_add(count) {
+        Some(len) if len <= limit => Held {
+            len,
+            overlong: held.overlong,
+        },
+        _ => Held {
             len: limit,
             overlong: true,
-        };
-    }
-    if limit - len < count {
-        return Held {
-            len: limit,
-            overlong: true,
-        };
-    }
-    Held {
-        len: len + count,
-        overlong: held.overlong,
+        },
     }
 }
 
@@ -60,16 +53,8 @@ pub fn feed(line: &mut [u8], held: Held, piece: &[u8], at: usize) -> Taken
     let limit = line.len();
     let end = find_byte(piece, at, b'\n');
     let after = settled(limit, held, end - at);
-    if piece.len() <= at {
-        return Taken {
-            held: after,
-            next: at,
-            complete: false,
-        };
-    }
-    let len = held.len;
-    let count = smaller(end - at, less(limit, len));
-    put(line, len, &piece[at..at + count]);
+    let count = (end - at).min(limit.saturating_sub(held.len));
+    put(line, held.len, &tail(piece, at)[..count]);
     if end < piece.len() {
         return Taken {
             held: after,

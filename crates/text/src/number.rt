@@ -1,67 +1,52 @@
 // Decimals without sign or leading zeros, below 2^64.
-ghost use Rattle.std.specs.Prelude.{◌≡◌, ◌&&◌, ◌||◌, not, ◌-◌, ◌+◌, ◌≤◌, ltb, eqb, length};
-ghost use Rattle.laws.specs.Counting.{pick};
+ghost use Rattle.std.specs.Prelude.{◌≡◌, ◌+◌, ◌≤◌, length};
 ghost use Rattle.text.specs.Numbers.{number_at, spelled};
-ghost use Rattle.text.specs.Inner.{Digit, written_back};
+ghost use Rattle.text.specs.Inner.{digit_of, run_of, plain_run, written_back};
 ghost use Rattle.text.specs.Bytes.{placed, placed_end};
 
-use crate::bytes::byte_at;
+use crate::bytes::{byte_at, tail};
 
-// What stands at a place: a number with the place behind it, or none that the rules allow.
-#[derive(Clone, Copy)]
-pub enum Number {
-    Value(u64, usize),
-    Bad,
-}
-
-// The digit's value; 10 for any other byte.
-fn digit(b: u8) -> u64
-    ensures { Digit b result }
+// The digit's value, of a digit.
+fn digit(b: u8) -> Option<u64>
+    ensures { result ≡ digit_of b }
 {
-    if b < 48 {
-        return 10;
+    match b {
+        b'0'..=b'9' => Some(u64::from(b - b'0')),
+        _ => None,
     }
-    if 57 < b {
-        return 10;
-    }
-    (b - 48) as u64
 }
 
-// A number that ended: at least one digit, and no leading zero.
-fn ended(first: u8, at: usize, end: usize, n: u64) -> Number
-    ensures { result ≡ pick (ltb at end && (eqb (end - at) 1 || not (eqb first 48))) (Number.Value n end) Number.Bad }
+// The digits that the bytes start with: the number that they make, where it is below 2^64, and how many they are.
+fn run_of_digits(s: &[u8]) -> Option<(u64, usize)>
+    ensures { result ≡ run_of s.now }
 {
-    if end <= at {
-        return Number::Bad;
+    let mut n: u64 = 0;
+    for (i, b) in s.iter().enumerate() {
+        let Some(d) = digit(*b) else {
+            return Some((n, i));
+        };
+        n = n.checked_mul(10)?.checked_add(d)?;
     }
-    if end - at == 1 {
-        return Number::Value(n, end);
-    }
-    if first == 48 {
-        return Number::Bad;
-    }
-    Number::Value(n, end)
+    Some((n, s.len()))
 }
 
-// The number at a place: the longest run of digits there.
-pub fn read_number(s: &[u8], at: usize) -> Number
+// Whether so many digits, with this one in front, are one or more, and no 0 before another.
+fn is_plain(count: usize, first: u8) -> bool
+    ensures { result ≡ plain_run count first }
+{
+    0 < count && (count == 1 || first != b'0')
+}
+
+// The number at a place, with the place behind it: the longest run of digits there.
+pub fn read_number(s: &[u8], at: usize) -> Option<(u64, usize)>
     ensures { result ≡ number_at s.now at }
 {
-    let first = byte_at(s, at);
-    let mut i = at;
-    let mut n: u64 = 0;
-    while i < s.len() {
-        let d = digit(s[i]);
-        if 9 < d {
-            return ended(first, at, i, n);
-        }
-        if (u64::MAX - d) / 10 < n {
-            return Number::Bad;
-        }
-        n = n * 10 + d;
-        i += 1;
+    let (n, count) = run_of_digits(tail(s, at))?;
+    if is_plain(count, byte_at(s, at)) {
+        Some((n, at + count))
+    } else {
+        None
     }
-    ended(first, at, i, n)
 }
 
 // How many digits a number has.
@@ -70,8 +55,9 @@ fn places(n: u64) -> usize
 {
     let mut k: usize = 1;
     let mut rest = n;
+    // Digits are counted, and no slice is walked.
     while 9 < rest {
-        rest = rest / 10;
+        rest /= 10;
         k += 1;
     }
     k
@@ -82,12 +68,11 @@ fn write_back(out: &mut [u8], at: usize, k: usize, n: u64)
     requires { at + k ≤ length out.old }
     ensures { out.new ≡ written_back out.old at k n }
 {
-    let mut j = k;
     let mut rest = n;
-    while 0 < j {
-        j -= 1;
-        out[at + j] = 48 + (rest % 10) as u8;
-        rest = rest / 10;
+    // By place: of what `iter_mut().rev()` wrote a proof knows the length alone.
+    for j in (0..k).rev() {
+        out[at + j] = b'0' + (rest % 10) as u8;
+        rest /= 10;
     }
 }
 
@@ -97,12 +82,11 @@ pub fn write_number(out: &mut [u8], at: usize, n: u64) -> usize
     ensures out_after { out.new ≡ placed out.old at (spelled n) }
 {
     let k = places(n);
-    if out.len() < at {
-        return at;
+    match at.checked_add(k) {
+        Some(end) if end <= out.len() => {
+            write_back(out, at, k, n);
+            end
+        }
+        _ => at,
     }
-    if out.len() - at < k {
-        return at;
-    }
-    write_back(out, at, k, n);
-    at + k
 }

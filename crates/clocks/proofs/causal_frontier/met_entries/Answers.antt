@@ -1,22 +1,12 @@
-use Rattle.std.proofs.Common.{◌≡◌, min, ◌∙◌, arith, length-set, rules}
-use Rattle.laws.proofs.Lists.{fill-turn, tabulated}
+-- Each entry is the lesser of both.
+use Rattle.std.proofs.Common.{◌≡◌, ℕ, ◌<◌, min, length, get_or, rules}
+use Rattle.laws.proofs.Lists.{tabulated}
 use Rattle.clocks.specs.Frontiers.{meet_entries}
 use Rattle.clocks.specs.Vectors.{entry}
 use Rattle.clocks.proofs.causal_frontier.met_entries.Goals as goal
 
-pub loop-i-init : goal.loop-i-init
-loop-i-init c = (omega arith, search rules, λ k l. absurd (omega arith))
-
-pub loop-i-preserved : goal.loop-i-preserved
-loop-i-preserved c = let a = c.args in
-    let l = c.loop-i in (
-      omega arith,
-      simp length-set l.invariant.1,
-      fill-turn (λ k. min (entry a.a k) (entry a.b.now k)) l.out l.i c.smaller.result (omega (arith, l.invariant.1))
-          (c.smaller.ensures ∙ rw c.seq_by_idx.ensures) l.invariant.2,
-    )
-
 pub returns : goal.returns
 unfolding meet_entries
-returns c = let e : c.loop-i.i ≡ 16 = omega arith in
-    tabulated _ 16 c.loop-i.out c.loop-i.invariant.1 (rw (← e) c.loop-i.invariant.2)
+returns c = let l : length c.from_fn.result ≡ 16 = search rules in
+    let h : (k : ℕ) → k < 16 → get_or c.from_fn.result k 0 ≡ min (entry c.args.a k) (entry c.args.b.now k) = search rules in
+    tabulated _ 16 _ l h

@@ -1,25 +1,26 @@
 use mathlib.Core.Path.{sym, ◌∙◌}
+use lib.ListN.{drop, length-take, take-append-drop}
+use Rattle.std.proofs.lemmas.List.{set-append_left, set-get_or}
 use native.Mathlib.Omega.{arith}
-use Rattle.listing.proofs.Entries.{passed_start, most-room, passed-turn, passed-stop, passed-full}
+use Rattle.listing.proofs.Entries.{passed_start, passed-turn, passed-stop, passed-full}
 use Rattle.listing.proofs.fields.read_entries.Goals as goal
 
 pub loop-n-init : goal.loop-n-init
-loop-n-init c = (c.smaller-limit.ensures, passed_start _ _ _ _)
-
-pub shape_of-out-in_default : goal.shape_of-out-in_default
-shape_of-out-in_default c = c.loop-n.invariant.1.long
+loop-n-init c = rw take-append-drop (passed_start _ _ _ _)
 
 pub returns-in_default : goal.returns-in_default
-returns-in_default c = let l = c.loop-n in let the = passed-stop _ _ _ _ _ _ _ l.invariant.1 (sym c.spaced_number-number.ensures ∙ c.in_default.is) in record { value = rw (← l.invariant.0) the.0; out_after = rw (← l.invariant.0) the.1 }
-
-pub bounds-out-n : goal.bounds-out-n
-bounds-out-n c = omega (arith, c.loop-n.invariant.1.long, most-room _ _ c.loop-n.invariant.0)
+returns-in_default c = let l = c.loop-n in
+    let the = passed-stop _ _ _ _ _ _ _ l.invariant (sym c.spaced_number.ensures ∙ c.in_default.is) in
+    rw (← c.min-limit.ensures, set-get_or) (record { value = the.0; out_after = the.1 })
 
 pub loop-n-preserved : goal.loop-n-preserved
-loop-n-preserved c = let l = c.loop-n in (l.invariant.0, rw c.size.ensures (passed-turn _ _ _ _ _ _ _ _ _ l.invariant.1 c.loop-n-test.true (most-room _ _ l.invariant.0) (sym c.spaced_number-number.ensures ∙ c.in-Value.is)))
-
-pub shape_of-out : goal.shape_of-out
-shape_of-out c = c.loop-n.invariant.1.long
+loop-n-preserved c = let l = c.loop-n in
+    let k = c.min-limit.result in
+    let rest = drop k c.args.out.now in
+    rw (← set-append_left l.slot-items rest l.n c.in-Some.v (omega arith))
+    (passed-turn _ _ _ _ _ _ _ _ _ l.invariant (omega (arith, length-take k c.args.out.now)) (omega arith) (sym c.spaced_number.ensures ∙ c.in-Some.is))
 
 pub returns : goal.returns
-returns c = let l = c.loop-n in let the = passed-full _ _ _ _ _ _ _ l.invariant.1 c.loop-n-test.false in record { value = rw (← l.invariant.0) the.0; out_after = rw (← l.invariant.0) the.1 }
+returns c = let l = c.loop-n in
+    let the = passed-full _ _ _ _ _ _ _ l.invariant (omega (arith, length-take c.min-limit.result c.args.out.now)) in
+    rw (← c.min-limit.ensures) (record { value = the.0; out_after = the.1 })

@@ -1,8 +1,15 @@
 -- The pair, and the chain behind it.
 use Rattle.graph.specs.Graphs.{event_at}
-use Rattle.listing.proofs.Laying.{laid_then}
+use Rattle.graph.specs.Whole.{whole}
+use Rattle.graph.specs.Whys.{chain_of}
+use Rattle.listing.specs.Whys.{pair_line, numbers_line}
+use Rattle.listing.proofs.Laying.{pieces_then}
 use Rattle.listing.proofs.why.lacks_answer.Goals as goal
 
 pub returns : goal.returns
 unfolding event_at
-returns c = laid_then _ _ _ _ _ _ _ _ (rw (c.event_at-first.ensures, c.event_at-second.ensures) at c.pair_line-at.ensures) c.chain_line.ensures
+returns g c = let a = c.args in
+    let w = whole a.g.now a.slots.now a.pasts.now in
+    pieces_then a.out.now (pair_line (event_at w a.later.0) (event_at w a.earlier.0)) (numbers_line (chain_of w a.later.0)) c.pair_line.new.out c.chain_line.new.out
+    (rw (c.event_at.ensures, c.event_at-2.ensures) at c.pair_line.ensures)
+    c.chain_line.ensures

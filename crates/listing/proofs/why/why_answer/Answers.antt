@@ -4,14 +4,14 @@ use Rattle.graph.specs.Whys.{why_of}
 use Rattle.listing.specs.Whys.{why_answer}
 use Rattle.listing.proofs.why.why_answer.Goals as goal
 
-pub returns-in-Cut : goal.returns-in-Cut
+pub returns-in-Ok-None : goal.returns-in-Ok-None
 unfolding why_answer why_of
-returns-in-Cut c = rw (sym c.why.ensures ∙ c.in-Cut.is) c.cut_line.ensures
+returns-in-Ok-None g c = rw (sym c.why.ensures ∙ c.in-Ok-None.is, c.in-Ok-None.field-0-is) c.cut_line.ensures
 
-pub returns-in-Lacks : goal.returns-in-Lacks
+pub returns-in-Ok-Some : goal.returns-in-Ok-Some
 unfolding why_answer why_of
-returns-in-Lacks c = rw (sym c.why.ensures ∙ c.in-Lacks.is) c.lacks_answer.ensures
+returns-in-Ok-Some g c = rw (sym c.why.ensures ∙ c.in-Ok-Some.is, c.in-Ok-Some.field-0-is) c.lacks_answer.ensures
 
-pub returns-in-Refused : goal.returns-in-Refused
+pub returns-in-Err : goal.returns-in-Err
 unfolding why_answer why_of
-returns-in-Refused c = rw (sym c.why.ensures ∙ c.in-Refused.is) c.number_line.ensures
+returns-in-Err g c = rw (sym c.why.ensures ∙ c.in-Err.is) c.refusal_line.ensures

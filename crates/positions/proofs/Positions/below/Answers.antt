@@ -1,17 +1,20 @@
 -- Each word keeps its bits below what is left of n where the word starts.
-use mathlib.Core.Path.{sym, ap, ap₂, ◌∙◌}
 use mathlib.Core.Bool.{Bool, ◌&&◌}
-use Prim.Native.Nat.{ℕ}
-use lib.Dec.{ltb, lit<}
+use mathlib.Core.Path.{◌≡◌, refl, sym, ap₂, ◌∙◌}
+use Prim.Native.Nat.{ℕ, ◌-◌, ◌*◌, ◌<◌}
+use lib.Dec.{ltb}
+use lib.ListN.{get_or}
+use borrow.Author.Rules.{rules}
+use Rattle.positions.specs.Bits.{bit}
 use Rattle.positions.specs.Members.{has}
-use Rattle.positions.proofs.Words.{four, has-at, has_first, has-out, less-below}
+use Rattle.positions.proofs.Made.{made}
+use Rattle.positions.proofs.Words.{by-words, has-at, has-out, less-below}
 use Rattle.positions.proofs.Positions.below.Goals as goal
 
 pub returns : goal.returns
 returns c = let a = c.args in
-    four _ _ _ _ (λ (k : ℕ). has a.self k && ltb k a.n)
-    (λ k p. c.below.ensures k p ∙ ap (λ (x : Bool). x && ltb k a.n) (sym (has_first a.self k p)))
-    (λ k p. c.below-2.ensures k p ∙ ap₂ (λ (x y : Bool). x && y) (sym (has-at a.self 1 k (lit< tt) p)) (less-below a.n 64 k c.less.ensures))
-    (λ k p. c.below-3.ensures k p ∙ ap₂ (λ (x y : Bool). x && y) (sym (has-at a.self 2 k (lit< tt) p)) (less-below a.n 128 k c.less-2.ensures))
-    (λ k p. c.below-4.ensures k p ∙ ap₂ (λ (x y : Bool). x && y) (sym (has-at a.self 3 k (lit< tt) p)) (less-below a.n 192 k c.less-3.ensures))
+    let e = made _ (λ s. (s.0.now ≡ a.self.words) × (s.1.now ≡ a.n)) (λ j y. (k : ℕ) → k < 64 → bit y k ≡ (bit (get_or a.self.words j 0) k && ltb k (a.n - 64 * j)))
+    (λ s i y t p q. search rules) (refl, refl) c.from_fn.ensures.items in
+    by-words _ (λ (k : ℕ). has a.self k && ltb k a.n)
+    (λ j l k p. e j l k p ∙ ap₂ (λ (x y : Bool). x && y) (sym (has-at a.self j k l p)) (less-below a.n (64 * j) k refl))
     (λ k p. rw (has-out a.self k p))

@@ -11,4 +11,4 @@ unfolding has
 returns-then-k-lt256 c = rw (lt-ltb _ _ c.if-k-lt256.true) (test_bit _ _)
 
 pub returns-else-k-lt256 : goal.returns-else-k-lt256
-returns-else-k-lt256 c = let a = c.args in sym (has-out a.self a.i.0 c.if-k-lt256.false)
+returns-else-k-lt256 c = let a = c.args in sym (has-out a.self.now a.i.0 c.if-k-lt256.false)

@@ -1,19 +1,15 @@
-use mathlib.Core.Path.{refl}
-use native.Mathlib.Numerals.{add-one}
+use mathlib.Core.Path.{◌≡◌, ◌∙◌}
+use lib.ListN.{drop, length-drop}
 use native.Mathlib.Omega.{arith}
-use Rattle.text.proofs.Before.{before_here, before-later, before-none}
+use Rattle.text.specs.Bytes.{bytes_before}
+use Rattle.text.proofs.Before.{before-le, first_or_end}
 use Rattle.text.proofs.bytes.find_byte.Goals as goal
 
-pub loop-i-init : goal.loop-i-init
-loop-i-init c = (omega arith, refl)
+found : (c : goal.After-unwrap_or) → c.unwrap_or.result ≡ bytes_before c.args.b (drop c.args.at c.args.s.now)
+found c = c.unwrap_or.ensures ∙ rw (c.place_of.ensures, c.tail-rest.ensures) (first_or_end c.args.b (drop c.args.at c.args.s.now))
 
-pub returns-then-s-i : goal.returns-then-s-i
-returns-then-s-i c = let a = c.args in let l = c.loop-i in omega (arith, l.invariant.1, before_here a.b a.s.now l.i c.loop-i-test.true c.if-s-i.true)
-
-pub loop-i-preserved : goal.loop-i-preserved
-loop-i-preserved c = let a = c.args in
-    let l = c.loop-i in
-    rw add-one (omega arith, omega (arith, l.invariant.1, before-later a.b a.s.now l.i c.loop-i-test.true c.if-s-i.false))
+pub overflow_add-result : goal.overflow_add-result
+overflow_add-result c = omega (arith, found c, before-le c.args.b (drop c.args.at c.args.s.now), length-drop c.args.at c.args.s.now)
 
 pub returns : goal.returns
-returns c = let a = c.args in let l = c.loop-i in omega (arith, l.invariant.1, before-none a.b a.s.now l.i c.loop-i-test.false)
+returns c = omega (arith, found c)

@@ -1,9 +1,0 @@
--- Each turn leaves one place less.
-use Rattle.std.proofs.Common.{◌-◌, length}
-use Rattle.probe_text.proofs.words.behind_numbers.Given as goal
-
-abbrev pub invariant-loop-i : goal.invariant-loop-i
-invariant-loop-i l = Unit {0}
-
-abbrev pub decreases-loop-i : goal.decreases-loop-i
-decreases-loop-i l = length l.kinds - l.i

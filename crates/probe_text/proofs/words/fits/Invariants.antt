@@ -1,9 +1,0 @@
--- Each turn leaves one letter less.
-use Rattle.std.proofs.Common.{◌-◌}
-use Rattle.probe_text.proofs.words.fits.Given as goal
-
-abbrev pub invariant-loop-i : goal.invariant-loop-i
-invariant-loop-i l = Unit {0}
-
-abbrev pub decreases-loop-i : goal.decreases-loop-i
-decreases-loop-i l = l.to - l.i
