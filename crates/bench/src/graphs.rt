@@ -1,9 +1,10 @@
 // The graph's side of the benchmark: each function makes a graph of the rows that it is lent, asks it one thing so many times, and adds up something of each answer,
 // so that no part of a call is left out.
-use crate::rows::{ROW, asked, counted, desk, event, id, version};
+use crate::rows::{MOST_ROWS, ROW, asked, counted, desk, event, id, version};
 use clocks::causal_frontier::CausalFrontier;
 use clocks::refusal::Refusal;
 use graph::{COLUMNS, EventGraph, Pasts, Slots};
+use numbers::size;
 
 // A graph of the rows, in tables that are emptied first.
 pub(super) fn built(
@@ -15,7 +16,7 @@ pub(super) fn built(
     *slots = [[0; 256]; COLUMNS];
     *pasts = [0; 1024];
     let mut graph = EventGraph::new(16)?;
-    for note in rows.chunks_exact(ROW).take(n) {
+    for note in rows.chunks_exact(ROW).take(n.min(MOST_ROWS)) {
         let _ = graph.append(event(note), version(note), slots, pasts);
     }
     Ok(graph)
@@ -165,7 +166,7 @@ pub extern "C" fn port_graph_get(
     rounds_of(rows, n, rounds, |graph, slots, _, k| {
         graph
             .get(id(asked(queries, k, m)), slots)
-            .map_or(0, |op| op.op as usize)
+            .map_or(0, |op| size(op.op))
     })
 }
 

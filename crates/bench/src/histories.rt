@@ -1,5 +1,7 @@
 // The history's side of the benchmark: each function makes a history of the rows that it is lent, makes one call so many times, and adds up what came back.
-use crate::rows::{ROW, asked, counted, desk, event, id, replica, row, seq, version};
+use crate::rows::{
+    MOST_ROWS, ROW, asked, counted, desk, event, id, replica, row, rows_from, seq, version,
+};
 use clocks::refusal::Refusal;
 use clocks::tagged_op::TaggedOp;
 use clocks::vector::Seq;
@@ -34,7 +36,7 @@ fn with_tables<W: FnOnce(&mut Tables) -> usize>(work: W) -> usize
 
 // So many notes more.
 fn grow(history: &mut EventHistory, rows: &[usize], n: usize, tables: &mut Tables) {
-    for note in rows.chunks_exact(ROW).take(n) {
+    for note in rows.chunks_exact(ROW).take(n.min(MOST_ROWS)) {
         let _ = history.append(
             event(note),
             version(note),
@@ -107,19 +109,25 @@ fn append_rounds(rows: &[usize], n: usize, rounds: usize, tables: &mut Tables) -
     sum
 }
 
-// The last note of these and the fifteen before it removed, and with them all of their desks.
+// The last of 512 notes and the fifteen before it removed, as far as they are there, and with them all of their desks.
 fn empty(history: &mut EventHistory, rows: &[usize], tables: &mut Tables) {
-    for note in rows.chunks_exact(ROW).rev().take(16) {
-        history.remove(id(note), tables.index, tables.versions, tables.boundaries);
+    for k in (496..512).rev() {
+        history.remove(
+            id(row(rows, k)),
+            tables.index,
+            tables.versions,
+            tables.boundaries,
+        );
     }
 }
 
-// All notes, 512 at a time, and all of them removed: from the second time on every row is given again.
+// All notes, 512 at a time, and all of them removed: from the second time on every row is given again. Turns are counted: there may be fewer notes than `n`.
 fn in_turns(rows: &[usize], n: usize, tables: &mut Tables) -> Result<EventHistory, Refusal> {
     let mut history = EventHistory::new(16)?;
-    for turn in rows.chunks_exact(512 * ROW).take(n / 512) {
-        grow(&mut history, turn, 512, tables);
-        empty(&mut history, turn, tables);
+    for turn in 0..n / 512 {
+        let left = rows_from(rows, turn.saturating_mul(512));
+        grow(&mut history, left, 512, tables);
+        empty(&mut history, left, tables);
     }
     Ok(history)
 }

@@ -3,13 +3,24 @@ use clocks::event::Event;
 use clocks::id::EventId;
 use clocks::refusal::{Refusal, number_in};
 use clocks::replica::ReplicaIdx;
+use numbers::{entry, wide};
 
 pub const ROW: usize = 20;
 
+// So many rows are looked at; what is behind them is no row.
+pub const MOST_ROWS: usize = 65_536;
+
+// The rows from row i on; nothing where there are none.
+pub fn rows_from(rows: &[usize], i: usize) -> &[usize] {
+    if MOST_ROWS <= i {
+        return &[];
+    }
+    rows.get(i * ROW..).unwrap_or(&[])
+}
+
 // Row i; nothing where there is none.
 pub fn row(rows: &[usize], i: usize) -> &[usize] {
-    let at = i.saturating_mul(ROW);
-    rows.get(at..at.saturating_add(ROW)).unwrap_or(&[])
+    rows_from(rows, i).get(..ROW).unwrap_or(&[])
 }
 
 // The row that the turn k takes, of m in turn.
@@ -20,10 +31,6 @@ pub fn asked(rows: &[usize], k: usize, m: usize) -> &[usize] {
 // The desk that the turn k takes: in turn another one than the note that it takes, and now and then the same.
 pub fn desk(k: usize) -> ReplicaIdx {
     ReplicaIdx(k / 3 % 16)
-}
-
-fn entry(row: &[usize], i: usize) -> usize {
-    row.get(i).copied().unwrap_or(0)
 }
 
 pub fn replica(row: &[usize]) -> ReplicaIdx {
@@ -39,7 +46,7 @@ pub fn id(row: &[usize]) -> EventId {
 }
 
 pub fn event(row: &[usize]) -> Event {
-    Event::new(id(row), entry(row, 2) as u64, entry(row, 3) as u64, 0)
+    Event::new(id(row), wide(entry(row, 2)), wide(entry(row, 3)), 0)
 }
 
 pub fn version(row: &[usize]) -> &[usize] {

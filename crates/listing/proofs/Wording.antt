@@ -1,5 +1,5 @@
 -- Words of a line: which of the fixed texts the first is.
-use mathlib.Core.Bool.{Bool, true, false}
+use mathlib.Core.Bool.{Bool, true, false, false≢true}
 use mathlib.Core.List.{List, [], ◌∷◌}
 use mathlib.Core.Logic.{⊎_elim}
 use mathlib.Core.Path.{◌≡◌, refl, sym, ◌∙◌}
@@ -11,8 +11,9 @@ use Rattle.std.proofs.Common.{Option, Some, None}
 use Rattle.std.specs.Cmp.Lexicographic.{pointwise}
 use Rattle.std.proofs.lemmas.Slice.Eq.{slice_eq-Decides}
 use Rattle.std.proofs.lemmas.Bool.Decides.{Decides-eqb}
-use Rattle.laws.proofs.Orders.{le-or-lt}
+use Rattle.laws.proofs.Orders.{le-or-lt, true-or-false}
 use Rattle.laws.specs.Counting.{pick}
+use Rattle.text.specs.Bytes.{Same}
 use Rattle.listing.specs.Words.{same_bytes}
 use Rattle.listing.specs.Commands.{nothing, sheet_line, Tells}
 use Rattle.listing.specs.Inner.{up_to_end}
@@ -31,13 +32,14 @@ same-is [] (b ∷ t) = refl
 same-is (a ∷ s) [] = refl
 same-is (a ∷ s) (b ∷ t) = rw (same-is s t)
 
--- so a word that was not met is another
-pub unmet : (s t : List ℕ) {u : List ℕ} {r : Bool} → r ≡ pointwise eqb s u → u ≡ t → r ≡ false → same_bytes s t ≡ false
-unmet s t {u} e q f = same-is s t ∙ rw (← q) (sym e ∙ f)
+-- the definition says whether both are the same bytes
+same-sound : (s t : List ℕ) → same_bytes s t ≡ true → s ≡ t
+unfolding same_bytes
+same-sound s t h = (slice_eq-Decides Decides-eqb s t _ (same-is s t)).0 h
 
--- and one that was met is this
-pub met : (s t : List ℕ) {u : List ℕ} {r : Bool} → r ≡ pointwise eqb s u → u ≡ t → r ≡ true → s ≡ t
-met s t {u} {r} e q f = (slice_eq-Decides Decides-eqb s u r e).0 f ∙ q
+-- so a word that was not met is another
+pub unmet : (s t : List ℕ) {r : Bool} → Same s t r → r ≡ false → same_bytes s t ≡ false
+unmet s t h f = ⊎_elim (λ (e : same_bytes s t ≡ true). absurd (false≢true (sym f ∙ h.complete (same-sound s t e)))) (λ (e : same_bytes s t ≡ false). e) (true-or-false (same_bytes s t))
 
 -- the one command of a word alone
 pub sheet-told : (s v : List ℕ) (at : ℕ) {r : Option Command} → r ≡ up_to_end s (Some (Sheet, at)) → Tells (sheet_line s at) v v r

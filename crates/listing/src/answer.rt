@@ -13,18 +13,19 @@ use clocks::causal_frontier::CausalFrontier;
 use clocks::refusal::Refusal;
 use clocks::vector::DESKS;
 use graph::advance::Advanced;
+use numbers::wide;
 use text::buffer::Buffer;
 
 // A number after a space.
-pub(super) fn spaced_decimal<const N: usize>(out: &mut Buffer<N>, n: usize)
+pub(super) fn spaced_decimal(out: &mut Buffer, n: usize)
     ensures { out.new ≡ with_pieces out.old (spaced (n ∷ [])) }
 {
     out.put(b" ");
-    out.put_number(n as u64);
+    out.put_number(wide(n));
 }
 
 // Numbers, each after a space.
-fn spaced_decimals<const N: usize>(out: &mut Buffer<N>, list: &[usize])
+fn spaced_decimals(out: &mut Buffer, list: &[usize])
     ensures { out.new ≡ with_pieces out.old (spaced list.now) }
 {
     for n in list {
@@ -33,7 +34,7 @@ fn spaced_decimals<const N: usize>(out: &mut Buffer<N>, list: &[usize])
 }
 
 // The numbers behind a line's first piece, and its end.
-pub(super) fn line_rest<const N: usize>(out: &mut Buffer<N>, list: &[usize])
+pub(super) fn line_rest(out: &mut Buffer, list: &[usize])
     ensures { out.new ≡ with_pieces out.old (spaced list.now ++ (newline ∷ [])) }
 {
     spaced_decimals(out, list);
@@ -41,15 +42,15 @@ pub(super) fn line_rest<const N: usize>(out: &mut Buffer<N>, list: &[usize])
 }
 
 // A line of numbers.
-pub fn decimal_line<const N: usize>(out: &mut Buffer<N>, first: usize, list: &[usize])
+pub fn decimal_line(out: &mut Buffer, first: usize, list: &[usize])
     ensures { out.new ≡ with_pieces out.old (line_of (spelled first) list.now) }
 {
-    out.put_number(first as u64);
+    out.put_number(wide(first));
     line_rest(out, list);
 }
 
 // A line of a word and numbers.
-pub fn word_line<const N: usize>(out: &mut Buffer<N>, word: &[u8], list: &[usize])
+pub fn word_line(out: &mut Buffer, word: &[u8], list: &[usize])
     ensures { out.new ≡ with_pieces out.old (line_of word.now list.now) }
 {
     out.put(word);
@@ -57,21 +58,21 @@ pub fn word_line<const N: usize>(out: &mut Buffer<N>, word: &[u8], list: &[usize
 }
 
 // The number alone.
-pub fn number_line<const N: usize>(out: &mut Buffer<N>, number: usize)
+pub fn number_line(out: &mut Buffer, number: usize)
     ensures { out.new ≡ with_pieces out.old (number_line number) }
 {
     decimal_line(out, number, &[]);
 }
 
 // A refusal's number.
-pub(super) fn refusal_line<const N: usize>(out: &mut Buffer<N>, refusal: Refusal)
+pub(super) fn refusal_line(out: &mut Buffer, refusal: Refusal)
     ensures { out.new ≡ with_pieces out.old (number_line (number_of refusal)) }
 {
     number_line(out, usize::from(refusal));
 }
 
 // 0 and a dash.
-fn none_line<const N: usize>(out: &mut Buffer<N>)
+fn none_line(out: &mut Buffer)
     ensures { out.new ≡ with_pieces out.old none_line }
 {
     out.put_number(0);
@@ -81,7 +82,7 @@ fn none_line<const N: usize>(out: &mut Buffer<N>)
 }
 
 // 0, a frontier's entries and what stands behind them.
-fn frontier_line<const N: usize>(out: &mut Buffer<N>, f: CausalFrontier, behind: &[usize])
+fn frontier_line(out: &mut Buffer, f: CausalFrontier, behind: &[usize])
     ensures { out.new ≡ with_pieces out.old (line_of (spelled 0) (take f.len f.entries ++ behind.now)) }
 {
     let entries = f.entries();
@@ -92,10 +93,7 @@ fn frontier_line<const N: usize>(out: &mut Buffer<N>, f: CausalFrontier, behind:
 
 // What `greatest` found.
 #[tactic(auto, using(crate::proofs::Laying::nothing_behind), unfolding(crate::specs::Answers::greatest_answer))]
-pub fn greatest_answer<const N: usize>(
-    out: &mut Buffer<N>,
-    found: Result<Option<CausalFrontier>, Refusal>,
-)
+pub fn greatest_answer(out: &mut Buffer, found: Result<Option<CausalFrontier>, Refusal>)
     ensures { (r : ℕ) → out.new ≡ with_pieces out.old (greatest_answer (found_by r found)) }
 {
     match found {
@@ -107,7 +105,7 @@ pub fn greatest_answer<const N: usize>(
 
 // What `advance` found, and how many went.
 #[tactic(auto, unfolding(crate::specs::Answers::advance_answer))]
-pub fn advance_answer<const N: usize>(out: &mut Buffer<N>, moved: Result<Option<Advanced>, Refusal>)
+pub fn advance_answer(out: &mut Buffer, moved: Result<Option<Advanced>, Refusal>)
     ensures { (r : ℕ) → out.new ≡ with_pieces out.old (advance_told r moved) }
 {
     match moved {
@@ -119,7 +117,7 @@ pub fn advance_answer<const N: usize>(out: &mut Buffer<N>, moved: Result<Option<
 
 // What `remove` removed.
 #[tactic(auto, unfolding(crate::specs::Answers::count_answer))]
-pub fn count_answer<const N: usize>(out: &mut Buffer<N>, removed: Result<usize, Refusal>)
+pub fn count_answer(out: &mut Buffer, removed: Result<usize, Refusal>)
     ensures { out.new ≡ with_pieces out.old (count_answer (number_in removed) (count_in removed)) }
 {
     match removed {
@@ -129,7 +127,7 @@ pub fn count_answer<const N: usize>(out: &mut Buffer<N>, removed: Result<usize, 
 }
 
 // What `check` said.
-pub fn check_answer<const N: usize>(out: &mut Buffer<N>, told: Result<bool, Refusal>)
+pub fn check_answer(out: &mut Buffer, told: Result<bool, Refusal>)
     ensures { out.new ≡ with_pieces out.old (check_answer told) }
 {
     match told {

@@ -7,7 +7,7 @@ use crate::fields::{read_vector, spaced_id, spaced_note, spaced_number};
 use clocks::event::Event;
 use clocks::id::EventId;
 use clocks::vector::Seq;
-use text::bytes::find_byte;
+use text::bytes::{find_byte, same};
 
 // The most bytes before a newline.
 pub const LONGEST_LINE: usize = 512;
@@ -55,28 +55,28 @@ fn by_word(s: &[u8], word: &[u8], vector: &mut [Seq]) -> Option<Command>
     ensures { Tells (by_word (length vector.old) s.now word.now) vector.old vector.new result }
 {
     let at = word.len();
-    if word == b"replicas".as_slice() {
+    if same(word, b"replicas") {
         return up_to_end(s, spaced_number(s, at)).map(|r| Command::Replicas(r as usize));
     }
-    if word == b"append".as_slice() {
+    if same(word, b"append") {
         return append_line(s, at, vector);
     }
-    if word == b"greatest".as_slice() {
+    if same(word, b"greatest") {
         return read_vector(s, at, vector).map(Command::Greatest);
     }
-    if word == b"check".as_slice() {
+    if same(word, b"check") {
         return read_vector(s, at, vector).map(Command::Check);
     }
-    if word == b"advance".as_slice() {
+    if same(word, b"advance") {
         return read_vector(s, at, vector).map(Command::Advance);
     }
-    if word == b"remove".as_slice() {
+    if same(word, b"remove") {
         return up_to_end(s, spaced_id(s, at)).map(Command::Remove);
     }
-    if word == b"sheet".as_slice() {
+    if same(word, b"sheet") {
         return up_to_end(s, Some((Command::Sheet, at)));
     }
-    if word == b"why".as_slice() {
+    if same(word, b"why") {
         return up_to_end(s, spaced_number(s, at)).map(|n| Command::Why(n as usize));
     }
     None

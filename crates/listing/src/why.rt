@@ -16,7 +16,7 @@ use text::buffer::Buffer;
 
 // 0 and the word.
 #[tactic(auto, unfolding(crate::specs::Words::bytes))]
-fn cut_line<const N: usize>(out: &mut Buffer<N>)
+fn cut_line(out: &mut Buffer)
     ensures { out.new ≡ with_pieces out.old cut_line }
 {
     out.put_number(0);
@@ -26,7 +26,7 @@ fn cut_line<const N: usize>(out: &mut Buffer<N>)
 }
 
 // The id fields of a position where an event is held.
-fn found_fields<const N: usize>(out: &mut Buffer<N>, found: Option<TaggedOp>)
+fn found_fields(out: &mut Buffer, found: Option<TaggedOp>)
     ensures { out.new ≡ with_pieces out.old (found_fields found) }
 {
     if let Some(e) = found {
@@ -35,11 +35,7 @@ fn found_fields<const N: usize>(out: &mut Buffer<N>, found: Option<TaggedOp>)
 }
 
 // 0 and six fields, the later id first.
-fn pair_line<const N: usize>(
-    out: &mut Buffer<N>,
-    later: Option<TaggedOp>,
-    earlier: Option<TaggedOp>,
-)
+fn pair_line(out: &mut Buffer, later: Option<TaggedOp>, earlier: Option<TaggedOp>)
     ensures { out.new ≡ with_pieces out.old (pair_line later earlier) }
 {
     out.put_number(0);
@@ -51,7 +47,7 @@ fn pair_line<const N: usize>(
 }
 
 // Numbers with a space between.
-fn numbers_line<const N: usize>(out: &mut Buffer<N>, list: &[usize])
+fn numbers_line(out: &mut Buffer, list: &[usize])
     ensures { out.new ≡ with_pieces out.old (numbers_line list.now) }
 {
     match list {
@@ -61,7 +57,7 @@ fn numbers_line<const N: usize>(out: &mut Buffer<N>, list: &[usize])
 }
 
 // The chain's positions from one downward; a list of 256 has always room.
-fn chain_line<const N: usize>(out: &mut Buffer<N>, g: &EventGraph, i: NodeIndex, pasts: &Pasts)
+fn chain_line(out: &mut Buffer, g: &EventGraph, i: NodeIndex, pasts: &Pasts)
     ensures { out.new ≡ with_pieces out.old (numbers_line (chain_of (whole g.now [] pasts.now) i.0)) }
 {
     let mut list = [0usize; 256];
@@ -70,8 +66,8 @@ fn chain_line<const N: usize>(out: &mut Buffer<N>, g: &EventGraph, i: NodeIndex,
 }
 
 // The two ids, and the chain from the later position.
-fn lacks_answer<'a, const N: usize>(
-    out: &mut Buffer<N>,
+fn lacks_answer<'a>(
+    out: &mut Buffer,
     g: &EventGraph,
     later: NodeIndex,
     earlier: NodeIndex,
@@ -85,8 +81,8 @@ fn lacks_answer<'a, const N: usize>(
 }
 
 // Why a length is no cut.
-pub fn why_answer<'a, const N: usize>(
-    out: &mut Buffer<N>,
+pub fn why_answer<'a>(
+    out: &mut Buffer,
     g: &EventGraph,
     length: usize,
     slots: &'a Slots,

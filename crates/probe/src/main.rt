@@ -96,9 +96,10 @@ fn main(rt: HostRuntime) {
     let mut slots = [[0; 256]; COLUMNS];
     let mut pasts = [0u64; 1024];
     let mut waiting = [[0; 22]; 65];
+    let mut answers = [0u8; 65_536];
     let mut out = Output {
         buffer: Buffer {
-            bytes: [0u8; 65_536],
+            bytes: &mut answers,
             len: 0,
         },
     };

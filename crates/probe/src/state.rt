@@ -5,7 +5,7 @@ use history::event_history::EventHistory;
 use probe_text::answers::{Answer, Output};
 use probe_text::arguments::Arguments;
 use probe_text::lent::MOST_ROOM;
-use probe_text::tokens::{Line, MOST_TOKENS, Token, parse};
+use probe_text::line::{Line, parse};
 use room::Rows;
 use room::waiting_room::WaitingRoom;
 
@@ -17,7 +17,7 @@ pub struct Tables<'a> {
     pub waiting: &'a mut Rows,
 }
 
-#[derive(Drop)]
+#[derive(Clone, Copy)]
 pub struct State {
     // How many entries the buffers have that list calls are lent.
     room: usize,
@@ -42,8 +42,7 @@ impl State {
 
     // One line, taken apart and handed to the module of its word.
     pub fn answer(&mut self, text: &[u8], out: &mut Output, tables: &mut Tables) {
-        let mut tokens = [Token::Bad; MOST_TOKENS];
-        self.by_word(parse(text, &mut tokens), out, tables);
+        self.by_word(parse(text), out, tables);
     }
 
     fn by_word(&mut self, line: Line, out: &mut Output, tables: &mut Tables) {
@@ -76,7 +75,7 @@ impl State {
 
     // `room N`
     fn set_room(&mut self, arguments: Arguments) -> Result<Answer, Refusal> {
-        let room = arguments.all(Arguments::number)?;
+        let room = arguments.all()?;
         if MOST_ROOM < room {
             return Err(Refusal::BadLine);
         }

@@ -4,8 +4,8 @@ use clocks::refusal::Refusal;
 use clocks::replica::ReplicaIdx;
 use clocks::version_vector::Version;
 use probe_text::answers::Answer;
-use probe_text::arguments::Arguments;
-use probe_text::tokens::Line;
+use probe_text::arguments::{Arguments, Sides};
+use probe_text::line::Line;
 
 pub fn asked(replicas: Option<usize>, line: Line) -> Result<Answer, Refusal> {
     let r = replicas.ok_or(Refusal::BadLine)?;
@@ -33,13 +33,13 @@ fn entry(r: usize, arguments: Arguments) -> Result<Answer, Refusal> {
 
 // `c.contains ID V`
 fn contains(r: usize, arguments: Arguments) -> Result<Answer, Refusal> {
-    let (id, vector) = arguments.all(|a| Ok((a.id()?, a.vector()?)))?;
+    let (id, vector) = arguments.all()?;
     Ok(Answer::from(frontier(r, vector)?.contains(id)))
 }
 
 // `c.sum V`
 fn sum(r: usize, arguments: Arguments) -> Result<Answer, Refusal> {
-    let vector = arguments.all(Arguments::vector)?;
+    let vector = arguments.all()?;
     Ok(Answer::Number(frontier(r, vector)?.sum()))
 }
 
@@ -58,7 +58,7 @@ fn includes(r: usize, arguments: Arguments) -> Result<Answer, Refusal> {
 
 // `c.set O X V`
 fn set(r: usize, arguments: Arguments) -> Result<Answer, Refusal> {
-    let (origin, seq, vector) = arguments.all(|a| Ok((a.replica()?, a.number()?, a.vector()?)))?;
+    let (origin, seq, vector) = arguments.all()?;
     let mut frontier = frontier(r, vector)?;
     frontier.set_by_idx(origin, seq)?;
     Ok(Answer::from(frontier))
@@ -86,12 +86,10 @@ fn meet(r: usize, arguments: Arguments) -> Result<Answer, Refusal> {
 
 // `c.vjoin O V | P V`
 fn join_version(r: usize, arguments: Arguments) -> Result<Answer, Refusal> {
-    let (ours, left, theirs, right) = arguments.all(|a| {
-        let ours = a.replica()?;
-        let left = a.vector()?;
-        a.bar()?;
-        Ok((ours, left, a.replica()?, a.vector()?))
-    })?;
+    let Sides {
+        left: (ours, left),
+        right: (theirs, right),
+    } = arguments.all()?;
     let mut version = Version::from_frontier(frontier(r, left)?, ours);
     version.join(Version::from_frontier(frontier(r, right)?, theirs))?;
     Ok(Answer::from(version.frontier()))

@@ -9,7 +9,7 @@ use clocks::causal_frontier::CausalFrontier;
 use clocks::refusal::Refusal;
 use probe_text::answers::{Answer, Output};
 use probe_text::arguments::Arguments;
-use probe_text::tokens::Line;
+use probe_text::line::Line;
 
 // One line. Before a good c.replicas there is no R, and no word but that one has an answer.
 pub fn answer(replicas: &mut Option<usize>, room: usize, line: Line, out: &mut Output) {
@@ -22,7 +22,7 @@ pub fn answer(replicas: &mut Option<usize>, room: usize, line: Line, out: &mut O
 
 // `c.replicas R`
 fn counted(replicas: &mut Option<usize>, arguments: Arguments) -> Result<Answer, Refusal> {
-    let r = arguments.all(Arguments::number)?;
+    let r = arguments.all()?;
     CausalFrontier::new(r)?;
     *replicas = Some(r);
     Ok(Answer::Nothing)

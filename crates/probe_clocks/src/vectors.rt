@@ -2,7 +2,7 @@
 use clocks::causal_frontier::CausalFrontier;
 use clocks::refusal::Refusal;
 use clocks::replica::ReplicaIdx;
-use probe_text::arguments::{Arguments, Vector};
+use probe_text::arguments::{Arguments, Sides, Vector};
 
 // The vector, or 3.
 pub fn frontier(r: usize, vector: Vector) -> Result<CausalFrontier, Refusal> {
@@ -11,16 +11,12 @@ pub fn frontier(r: usize, vector: Vector) -> Result<CausalFrontier, Refusal> {
 
 // A desk and the vector behind it.
 pub fn placed(r: usize, arguments: Arguments) -> Result<(ReplicaIdx, CausalFrontier), Refusal> {
-    let (idx, vector) = arguments.all(|a| Ok((a.replica()?, a.vector()?)))?;
+    let (idx, vector) = arguments.all()?;
     Ok((idx, frontier(r, vector)?))
 }
 
 // The vectors on both sides of the bar. What the first is refused for comes before the second.
 pub fn both(r: usize, arguments: Arguments) -> Result<(CausalFrontier, CausalFrontier), Refusal> {
-    let (left, right) = arguments.all(|a| {
-        let left = a.vector()?;
-        a.bar()?;
-        Ok((left, a.vector()?))
-    })?;
+    let Sides { left, right } = arguments.all()?;
     Ok((frontier(r, left)?, frontier(r, right)?))
 }

@@ -4,8 +4,8 @@ use clocks::refusal::Refusal;
 use graph::EventGraph;
 use graph::why::Lack;
 use probe_text::answers::Answer;
-use probe_text::arguments::Arguments;
-use probe_text::tokens::Line;
+use probe_text::arguments::{Arguments, Vector};
+use probe_text::line::Line;
 
 pub fn asked(graph: &EventGraph, line: Line, tables: &Tables) -> Result<Answer, Refusal> {
     let arguments = line.arguments;
@@ -34,13 +34,13 @@ fn of_whole(graph: &EventGraph, line: Line) -> Result<Answer, Refusal> {
 
 // `g.get ID`
 fn get(graph: &EventGraph, arguments: Arguments, tables: &Tables) -> Result<Answer, Refusal> {
-    let id = arguments.all(Arguments::id)?;
+    let id = arguments.all()?;
     Ok(Answer::from(graph.get(id, tables.slots)))
 }
 
 // `g.order ID`
 fn order(graph: &EventGraph, arguments: Arguments, tables: &Tables) -> Result<Answer, Refusal> {
-    let id = arguments.all(Arguments::id)?;
+    let id = arguments.all()?;
     let place = graph.delivery_order(id, tables.slots);
     Ok(place.map_or(Answer::Absent, |i| Answer::Number(i.0)))
 }
@@ -51,28 +51,28 @@ fn is_critical(
     arguments: Arguments,
     tables: &Tables,
 ) -> Result<Answer, Refusal> {
-    let frontier = arguments.all(Arguments::vector)?;
+    let frontier: Vector = arguments.all()?;
     let critical = graph.is_critical(frontier.entries(), tables.slots)?;
     Ok(Answer::from(critical))
 }
 
 // `g.greatest V`
 fn greatest(graph: &EventGraph, arguments: Arguments, tables: &Tables) -> Result<Answer, Refusal> {
-    let bound = arguments.all(Arguments::vector)?;
+    let bound: Vector = arguments.all()?;
     let greatest = graph.greatest_critical_frontier(bound.entries(), tables.slots)?;
     Ok(Answer::from(greatest))
 }
 
 // `g.seen V`
 fn seen(graph: &EventGraph, arguments: Arguments) -> Result<Answer, Refusal> {
-    let version = arguments.all(Arguments::vector)?;
+    let version: Vector = arguments.all()?;
     let seen = graph.seen_all(version.entries())?;
     Ok(Answer::from(seen))
 }
 
 // `g.why L`: a cut, or two ids, the later first.
 fn why(graph: &EventGraph, arguments: Arguments, tables: &Tables) -> Result<Answer, Refusal> {
-    let length = arguments.all(Arguments::number)?;
+    let length = arguments.all()?;
     Ok(match graph.why(length, tables.pasts)? {
         Some(lack) => lacking(graph, lack, tables).unwrap_or(Answer::Absent),
         None => Answer::Cut,

@@ -5,12 +5,14 @@ mod asks;
 mod changes;
 mod lists;
 
+use changes::Change;
 use clocks::refusal::Refusal;
 use graph::{EventGraph, Pasts, Slots};
+use lists::{List, Listing};
 use probe_text::answers::{Answer, Output};
-use probe_text::arguments::Arguments;
-use probe_text::lent::digest;
-use probe_text::tokens::Line;
+use probe_text::arguments::{Arguments, Vector};
+use probe_text::lent::{digest, listed};
+use probe_text::line::Line;
 
 // The tables of a graph.
 #[derive(Drop)]
@@ -21,8 +23,7 @@ pub struct Tables<'a> {
 
 // A number that tells two contents of the tables apart.
 fn tables_digest(tables: &Tables) -> u64 {
-    let notes = digest(tables.slots, |column| digest(column, |n| *n as u64));
-    notes ^ (digest(tables.pasts, |word| *word) << 6)
+    digest(tables.slots) ^ (digest(tables.pasts) << 6)
 }
 
 // One line. Before a good g.new or g.from there is no graph, and no word but those has an answer.
@@ -45,12 +46,12 @@ pub fn answer(
 
 // `g.new R`
 fn fresh(arguments: Arguments) -> Result<EventGraph, Refusal> {
-    EventGraph::new(arguments.all(Arguments::number)?)
+    EventGraph::new(arguments.all()?)
 }
 
 // `g.from R V`
 fn restored(arguments: Arguments) -> Result<EventGraph, Refusal> {
-    let (r, vector) = arguments.all(|a| Ok((a.number()?, a.vector()?)))?;
+    let (r, vector): (usize, Vector) = arguments.all()?;
     EventGraph::from_checkpoint(r, vector.entries())
 }
 
@@ -68,27 +69,27 @@ fn begun(
     Ok(Answer::Nothing)
 }
 
+// What is neither a change nor a list is asked, and where it is no question either, it is no line.
 fn of_made(graph: &mut EventGraph, room: usize, line: Line, out: &mut Output, tables: &mut Tables) {
-    if let Some(word) = changes::Word::of(line.word) {
-        return changed(word, line.arguments, graph, out, tables);
+    if let Ok(change) = Change::read(line) {
+        return changed(change, graph, out, tables);
     }
-    if let Some(word) = lists::Word::of(line.word) {
-        return lists::told(word, line.arguments, graph, room, out, tables);
+    if let Ok(list) = List::read(line) {
+        let listing = Listing {
+            list,
+            graph,
+            tables,
+        };
+        return listed(&listing, room, out);
     }
     out.told(asks::asked(graph, line, tables), false)
 }
 
 // The words that change the graph. Where one is refused, or flushes nothing, the graph and its tables are to be as they were.
-fn changed(
-    word: changes::Word,
-    arguments: Arguments,
-    graph: &mut EventGraph,
-    out: &mut Output,
-    tables: &mut Tables,
-) {
+fn changed(change: Change, graph: &mut EventGraph, out: &mut Output, tables: &mut Tables) {
     let old = *graph;
     let before = tables_digest(tables);
-    let answer = changes::called(word, arguments, graph, tables);
+    let answer = change.called(graph, tables);
     let same = is_same(&old, graph) && tables_digest(tables) == before;
     let stays = matches!(answer, Err(_) | Ok(Answer::Absent));
     out.told(answer, stays && !same)

@@ -1,114 +1,100 @@
-// The graph words that list. A list is of positions, and each is told as its event, or of lengths, which are told as they are.
+// The graph words that list. A list is of positions, and each is told as its event, or of lengths, which are told as they are. A line is read whole before the buffer is filled.
 use crate::Tables;
+use clocks::id::EventId;
 use clocks::refusal::Refusal;
+use clocks::replica::ReplicaIdx;
 use graph::EventGraph;
 use positions::NodeIndex;
-use probe_text::answers::{Answer, Output};
-use probe_text::arguments::Arguments;
-use probe_text::lent::listed;
+use probe_text::answers::Answer;
+use probe_text::arguments::Vector;
+use probe_text::lent::ListCall;
+use probe_text::line::Line;
 
+// A list with what stands behind its word.
 #[derive(Clone, Copy, Debug, PartialEq, Eq)]
-pub enum Word {
-    Parents,
+pub enum List {
+    // `g.parents ID`
+    Parents(EventId),
+    // `g.cuts`
     Cuts,
-    Chain,
+    // `g.chain L`
+    Chain(usize),
+    // `g.heads`
     Heads,
+    // `g.iter`
     Iter,
-    Predecessors,
-    Concurrent,
-    ReplicaEvents,
+    // `g.predecessors V`
+    Predecessors(Vector),
+    // `g.concurrent V`
+    Concurrent(Vector),
+    // `g.replica-events O A B`
+    ReplicaEvents(ReplicaIdx, usize, usize),
 }
 
-impl Word {
-    pub fn of(text: &[u8]) -> Option<Word> {
-        match text {
-            b"g.parents" => Some(Word::Parents),
-            b"g.cuts" => Some(Word::Cuts),
-            b"g.chain" => Some(Word::Chain),
-            b"g.heads" => Some(Word::Heads),
-            b"g.iter" => Some(Word::Iter),
-            b"g.predecessors" => Some(Word::Predecessors),
-            b"g.concurrent" => Some(Word::Concurrent),
-            b"g.replica-events" => Some(Word::ReplicaEvents),
-            _ => None,
+impl List {
+    // The list that a line asks for; a line of another word is none.
+    pub fn read(line: Line) -> Result<List, Refusal> {
+        let arguments = line.arguments;
+        match line.word {
+            b"g.parents" => Ok(List::Parents(arguments.all()?)),
+            b"g.chain" => Ok(List::Chain(arguments.all()?)),
+            b"g.predecessors" => Ok(List::Predecessors(arguments.all()?)),
+            b"g.concurrent" => Ok(List::Concurrent(arguments.all()?)),
+            b"g.replica-events" => {
+                let (origin, start, end) = arguments.all()?;
+                Ok(List::ReplicaEvents(origin, start, end))
+            }
+            _ => List::of_whole(line),
+        }
+    }
+
+    // The words with nothing behind them.
+    fn of_whole(line: Line) -> Result<List, Refusal> {
+        line.arguments.end()?;
+        match line.word {
+            b"g.cuts" => Ok(List::Cuts),
+            b"g.heads" => Ok(List::Heads),
+            b"g.iter" => Ok(List::Iter),
+            _ => Err(Refusal::BadLine),
         }
     }
 }
 
-pub fn told(
-    word: Word,
-    arguments: Arguments,
-    graph: &EventGraph,
-    room: usize,
-    out: &mut Output,
-    tables: &Tables,
-) {
-    listed(
-        room,
-        out,
-        |list| called(word, arguments, graph, list, tables),
-        |k| entry(word, graph, k, tables),
-    )
+// A list of a graph.
+#[derive(Clone, Copy)]
+pub struct Listing<'a> {
+    pub list: List,
+    pub graph: &'a EventGraph,
+    pub tables: &'a Tables<'a>,
 }
 
-// The call that a word makes, with a lent buffer.
-fn called(
-    word: Word,
-    arguments: Arguments,
-    graph: &EventGraph,
-    list: &mut [usize],
-    tables: &Tables,
-) -> Result<usize, Refusal> {
-    match word {
-        Word::Parents => {
-            let id = arguments.all(Arguments::id)?;
-            graph.direct_predecessors(id, tables.slots, tables.pasts, list)
-        }
-        Word::Chain => {
-            let length = arguments.all(Arguments::number)?;
-            graph.chain(NodeIndex(length), tables.pasts, list)
-        }
-        Word::Predecessors => {
-            let version = arguments.all(Arguments::vector)?;
-            graph.predecessors(version.entries(), tables.slots, list)
-        }
-        Word::Concurrent => {
-            let version = arguments.all(Arguments::vector)?;
-            graph.concurrent(version.entries(), tables.slots, list)
-        }
-        Word::ReplicaEvents => replica_events(arguments, graph, list, tables),
-        Word::Cuts => {
-            arguments.end()?;
-            graph.cuts(list)
-        }
-        Word::Heads => {
-            arguments.end()?;
-            graph.frontier(tables.pasts, list)
-        }
-        Word::Iter => {
-            arguments.end()?;
-            graph.iter(list)
+impl ListCall for Listing<'_> {
+    fn call(&self, list: &mut [usize]) -> Result<usize, Refusal> {
+        let Tables { slots, pasts } = self.tables;
+        match self.list {
+            List::Parents(id) => self.graph.direct_predecessors(id, slots, pasts, list),
+            List::Chain(length) => self.graph.chain(NodeIndex(length), pasts, list),
+            List::Predecessors(version) => {
+                self.graph.predecessors(version.entries(), slots, list)
+            }
+            List::Concurrent(version) => self.graph.concurrent(version.entries(), slots, list),
+            List::ReplicaEvents(origin, start, end) => {
+                self.graph.replica_events(origin, start, end, slots, list)
+            }
+            List::Cuts => self.graph.cuts(list),
+            List::Heads => self.graph.frontier(pasts, list),
+            List::Iter => self.graph.iter(list),
         }
     }
-}
 
-// `g.replica-events O A B`
-fn replica_events(
-    arguments: Arguments,
-    graph: &EventGraph,
-    list: &mut [usize],
-    tables: &Tables,
-) -> Result<usize, Refusal> {
-    let (origin, start, end) = arguments.all(|a| Ok((a.replica()?, a.number()?, a.number()?)))?;
-    graph.replica_events(origin, start, end, tables.slots, list)
-}
-
-// An entry of the list. Where a position holds nothing the answer shows nothing.
-fn entry(word: Word, graph: &EventGraph, k: usize, tables: &Tables) -> Answer {
-    let event = || graph.event_at(NodeIndex(k), tables.slots);
-    match word {
-        Word::Cuts | Word::Chain => Answer::Number(k),
-        Word::Parents => event().map_or(Answer::Nothing, |op| Answer::Id(op.id())),
-        _ => event().map_or(Answer::Nothing, Answer::Event),
+    // Where a position holds nothing the answer shows nothing.
+    fn entry(&self, k: usize) -> Answer {
+        let Tables { slots, .. } = self.tables;
+        let event = || self.graph.event_at(NodeIndex(k), slots);
+        match self.list {
+            List::Cuts | List::Chain(_) => Answer::Number(k),
+            List::Parents(_) => event().map_or(Answer::Nothing, |op| Answer::Id(op.id())),
+            _ => event().map_or(Answer::Nothing, Answer::Event),
+        }
     }
 }

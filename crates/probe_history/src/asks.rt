@@ -6,7 +6,7 @@ use clocks::replica::ReplicaIdx;
 use history::event_history::{EventHistory, FirstObserver};
 use probe_text::answers::Answer;
 use probe_text::arguments::{Arguments, Vector};
-use probe_text::tokens::Line;
+use probe_text::line::Line;
 
 pub fn asked(history: &EventHistory, line: Line, tables: &Tables) -> Result<Answer, Refusal> {
     let arguments = line.arguments;
@@ -25,12 +25,12 @@ pub fn asked(history: &EventHistory, line: Line, tables: &Tables) -> Result<Answ
 
 // An id and a desk.
 fn placed(arguments: Arguments) -> Result<(EventId, ReplicaIdx), Refusal> {
-    arguments.all(|a| Ok((a.id()?, a.replica()?)))
+    arguments.all()
 }
 
 // `h.get ID`
 fn get(history: &EventHistory, arguments: Arguments, tables: &Tables) -> Result<Answer, Refusal> {
-    let id = arguments.all(Arguments::id)?;
+    let id = arguments.all()?;
     Ok(Answer::from(history.get(id, tables.index, tables.notes)))
 }
 
@@ -76,7 +76,7 @@ fn version(
     arguments: Arguments,
     tables: &Tables,
 ) -> Result<Answer, Refusal> {
-    let id = arguments.all(Arguments::id)?;
+    let id = arguments.all()?;
     let row = history.version(id, tables.index, tables.notes, tables.versions);
     Ok(Answer::Vector(Vector::from(row)))
 }
@@ -87,7 +87,7 @@ fn last_version(
     arguments: Arguments,
     tables: &Tables,
 ) -> Result<Answer, Refusal> {
-    let r = arguments.all(Arguments::replica)?;
+    let r = arguments.all()?;
     let row = history.last_version(r, tables.index, tables.versions, tables.boundaries);
     Ok(Answer::Vector(Vector::from(row)))
 }

@@ -1,58 +1,73 @@
-// The history words that change a history.
+// The history words that change a history. A line is read whole before the history and its tables are looked at.
 use crate::Tables;
+use clocks::event::Event;
+use clocks::id::EventId;
 use clocks::refusal::Refusal;
 use history::event_history::EventHistory;
 use probe_text::answers::Answer;
-use probe_text::arguments::Arguments;
-use probe_text::tokens::MOST_TOKENS;
+use probe_text::arguments::{MOST_MASK, Mask, Vector};
+use probe_text::line::Line;
 
+// A change with what stands behind its word.
 #[derive(Clone, Copy, Debug, PartialEq, Eq)]
-pub enum Word {
-    Append,
-    Prune,
-    Remove,
-    Retain,
-    Raise,
+pub enum Change<'a> {
+    // `h.append ID L P R V`
+    Append(Event, Vector),
+    // `h.prune V`
+    Prune(Vector),
+    // `h.remove ID`
+    Remove(EventId),
+    // `h.retain M`
+    Retain(Mask<'a>),
+    // `h.raise R`
+    Raise(usize),
+    // `h.clear`
     Clear,
 }
 
-impl Word {
-    pub fn of(text: &[u8]) -> Option<Word> {
-        match text {
-            b"h.append" => Some(Word::Append),
-            b"h.prune" => Some(Word::Prune),
-            b"h.remove" => Some(Word::Remove),
-            b"h.retain" => Some(Word::Retain),
-            b"h.raise" => Some(Word::Raise),
-            b"h.clear" => Some(Word::Clear),
-            _ => None,
+impl<'a> Change<'a> {
+    // The change that a line asks for; a line of another word is none.
+    pub fn read(line: Line<'a>) -> Result<Change<'a>, Refusal> {
+        let arguments = line.arguments;
+        match line.word {
+            b"h.append" => {
+                let (event, version) = arguments.all()?;
+                Ok(Change::Append(event, version))
+            }
+            b"h.prune" => Ok(Change::Prune(arguments.all()?)),
+            b"h.remove" => Ok(Change::Remove(arguments.all()?)),
+            b"h.retain" => Ok(Change::Retain(arguments.mask()?)),
+            b"h.raise" => Ok(Change::Raise(arguments.all()?)),
+            b"h.clear" => {
+                arguments.end()?;
+                Ok(Change::Clear)
+            }
+            _ => Err(Refusal::BadLine),
+        }
+    }
+
+    pub fn called(
+        self,
+        history: &mut EventHistory,
+        tables: &mut Tables,
+    ) -> Result<Answer, Refusal> {
+        match self {
+            Change::Append(event, version) => append(event, version, history, tables),
+            Change::Prune(frontier) => prune(frontier, history, tables),
+            Change::Remove(id) => Ok(remove(id, history, tables)),
+            Change::Retain(mask) => retain(mask, history, tables),
+            Change::Raise(r) => raise(r, history),
+            Change::Clear => Ok(Answer::Number(history.clear())),
         }
     }
 }
 
-pub fn called(
-    word: Word,
-    arguments: Arguments,
-    history: &mut EventHistory,
-    tables: &mut Tables,
-) -> Result<Answer, Refusal> {
-    match word {
-        Word::Append => append(arguments, history, tables),
-        Word::Prune => prune(arguments, history, tables),
-        Word::Remove => remove(arguments, history, tables),
-        Word::Retain => retain(arguments, history, tables),
-        Word::Raise => raise(arguments, history),
-        Word::Clear => clear(arguments, history),
-    }
-}
-
-// `h.append ID L P R V`
 fn append(
-    arguments: Arguments,
+    event: Event,
+    version: Vector,
     history: &mut EventHistory,
     tables: &mut Tables,
 ) -> Result<Answer, Refusal> {
-    let (event, version) = arguments.all(|a| Ok((a.event()?, a.vector()?)))?;
     history.append(
         event,
         version.entries(),
@@ -64,13 +79,11 @@ fn append(
     Ok(Answer::Nothing)
 }
 
-// `h.prune V`
 fn prune(
-    arguments: Arguments,
+    frontier: Vector,
     history: &mut EventHistory,
     tables: &mut Tables,
 ) -> Result<Answer, Refusal> {
-    let frontier = arguments.all(Arguments::vector)?;
     let count = history.prune_predecessors(
         frontier.entries(),
         tables.index,
@@ -80,37 +93,18 @@ fn prune(
     Ok(Answer::Number(count))
 }
 
-// `h.remove ID`
-fn remove(
-    arguments: Arguments,
-    history: &mut EventHistory,
-    tables: &mut Tables,
-) -> Result<Answer, Refusal> {
-    let id = arguments.all(Arguments::id)?;
-    let count = history.remove(id, tables.index, tables.versions, tables.boundaries);
+fn remove(id: EventId, history: &mut EventHistory, tables: &mut Tables) -> Answer {
+    Answer::Number(history.remove(id, tables.index, tables.versions, tables.boundaries))
+}
+
+fn retain(mask: Mask, history: &mut EventHistory, tables: &mut Tables) -> Result<Answer, Refusal> {
+    let mut bytes = [0; MOST_MASK];
+    let keep = mask.bytes(&mut bytes);
+    let count = history.retain(keep, tables.index, tables.versions, tables.boundaries)?;
     Ok(Answer::Number(count))
 }
 
-// `h.retain M`
-fn retain(
-    arguments: Arguments,
-    history: &mut EventHistory,
-    tables: &mut Tables,
-) -> Result<Answer, Refusal> {
-    let mut mask = [0; MOST_TOKENS];
-    let mask = arguments.mask(&mut mask)?;
-    let count = history.retain(mask, tables.index, tables.versions, tables.boundaries)?;
-    Ok(Answer::Number(count))
-}
-
-// `h.raise R`
-fn raise(arguments: Arguments, history: &mut EventHistory) -> Result<Answer, Refusal> {
-    history.raise(arguments.all(Arguments::number)?)?;
+fn raise(r: usize, history: &mut EventHistory) -> Result<Answer, Refusal> {
+    history.raise(r)?;
     Ok(Answer::Nothing)
-}
-
-// `h.clear`
-fn clear(arguments: Arguments, history: &mut EventHistory) -> Result<Answer, Refusal> {
-    arguments.end()?;
-    Ok(Answer::Number(history.clear()))
 }

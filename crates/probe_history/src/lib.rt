@@ -5,14 +5,16 @@ mod asks;
 mod changes;
 mod lists;
 
+use changes::Change;
 use clocks::refusal::Refusal;
 use clocks::vector::Seq;
 use history::event_history::EventHistory;
 use history::{Index, Notes};
+use lists::{List, Listing};
 use probe_text::answers::{Answer, Output};
 use probe_text::arguments::Arguments;
-use probe_text::lent::digest;
-use probe_text::tokens::Line;
+use probe_text::lent::{digest, listed};
+use probe_text::line::Line;
 
 // The tables of a history.
 #[derive(Drop)]
@@ -25,10 +27,10 @@ pub struct Tables<'a> {
 
 // A number that tells two contents of the tables apart.
 pub fn tables_digest(tables: &Tables) -> u64 {
-    digest(tables.versions, |seq| *seq as u64)
-        ^ (digest(tables.notes, |word| *word) << 1)
-        ^ (digest(tables.boundaries, |seq| *seq as u64) << 2)
-        ^ (digest(tables.index, |row| u64::from(*row)) << 3)
+    digest(tables.versions)
+        ^ (digest(tables.notes) << 1)
+        ^ (digest(tables.boundaries) << 2)
+        ^ (digest(tables.index) << 3)
 }
 
 // One line, and whether it made a history. Before a good h.new there is none, and no word but that one has an answer.
@@ -53,10 +55,11 @@ pub fn answer(
 
 // `h.new R`
 fn created(history: &mut Option<EventHistory>, arguments: Arguments) -> Result<Answer, Refusal> {
-    *history = Some(EventHistory::new(arguments.all(Arguments::number)?)?);
+    *history = Some(EventHistory::new(arguments.all()?)?);
     Ok(Answer::Nothing)
 }
 
+// What is neither a change nor a list is asked, and where it is no question either, it is no line.
 fn of_made(
     history: &mut EventHistory,
     room: usize,
@@ -64,26 +67,25 @@ fn of_made(
     out: &mut Output,
     tables: &mut Tables,
 ) {
-    if let Some(word) = changes::Word::of(line.word) {
-        return changed(word, line.arguments, history, out, tables);
+    if let Ok(change) = Change::read(line) {
+        return changed(change, history, out, tables);
     }
-    if let Some(word) = lists::Word::of(line.word) {
-        return lists::told(word, line.arguments, history, room, out, tables);
+    if let Ok(list) = List::read(line) {
+        let listing = Listing {
+            list,
+            history,
+            tables,
+        };
+        return listed(&listing, room, out);
     }
     out.told(asks::asked(history, line, tables), false)
 }
 
 // The words that change the history. Where one is refused, the history is to hold as many events and the tables are to be as they were.
-fn changed(
-    word: changes::Word,
-    arguments: Arguments,
-    history: &mut EventHistory,
-    out: &mut Output,
-    tables: &mut Tables,
-) {
+fn changed(change: Change, history: &mut EventHistory, out: &mut Output, tables: &mut Tables) {
     let len = history.len();
     let before = tables_digest(tables);
-    let answer = changes::called(word, arguments, history, tables);
+    let answer = change.called(history, tables);
     let same = history.len() == len && tables_digest(tables) == before;
     out.told(answer, answer.is_err() && !same)
 }

@@ -9,7 +9,7 @@ use history::event_history::EventHistory;
 use probe_history::Tables;
 use probe_text::answers::{Answer, Output};
 use probe_text::arguments::Arguments;
-use probe_text::tokens::Line;
+use probe_text::line::Line;
 use room::Rows;
 use room::waiting_room::WaitingRoom;
 

@@ -2,9 +2,26 @@
 use clocks::refusal::Refusal;
 use probe_text::answers::{Answer, Output};
 use probe_text::arguments::Arguments;
-use probe_text::lent::listed;
+use probe_text::lent::{ListCall, listed};
 use room::Rows;
 use room::waiting_room::WaitingRoom;
+
+// The list of a room.
+#[derive(Clone, Copy)]
+struct Listing<'a> {
+    waiting: &'a WaitingRoom,
+    rows: &'a Rows,
+}
+
+impl ListCall for Listing<'_> {
+    fn call(&self, list: &mut [usize]) -> Result<usize, Refusal> {
+        self.waiting.waiting(self.rows, list)
+    }
+
+    fn entry(&self, k: usize) -> Answer {
+        Answer::Id(self.waiting.id_at(k, self.rows))
+    }
+}
 
 pub fn told(
     waiting: &WaitingRoom,
@@ -13,20 +30,8 @@ pub fn told(
     out: &mut Output,
     rows: &Rows,
 ) {
-    listed(
-        room,
-        out,
-        |list| called(waiting, arguments, list, rows),
-        |k| Answer::Id(waiting.id_at(k, rows)),
-    )
-}
-
-fn called(
-    waiting: &WaitingRoom,
-    arguments: Arguments,
-    list: &mut [usize],
-    rows: &Rows,
-) -> Result<usize, Refusal> {
-    arguments.end()?;
-    waiting.waiting(rows, list)
+    match arguments.end() {
+        Ok(()) => listed(&Listing { waiting, rows }, room, out),
+        Err(refusal) => out.told(Err(refusal), false),
+    }
 }

@@ -57,11 +57,11 @@ impl From<Option<CausalFrontier>> for Answer {
 
 // The answers that are not written yet.
 #[derive(Drop)]
-pub struct Output {
-    pub buffer: Buffer<65_536>,
+pub struct Output<'a> {
+    pub buffer: Buffer<'a>,
 }
 
-impl Output {
+impl<'a> Output<'a> {
     fn put(&mut self, bytes: &[u8]) {
         self.buffer.put(bytes);
     }

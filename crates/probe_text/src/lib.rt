@@ -4,4 +4,4 @@
 pub mod answers;
 pub mod arguments;
 pub mod lent;
-pub mod tokens;
+pub mod line;

@@ -10,7 +10,7 @@ use Rattle.listing.proofs.Shown.{shown-entries}
 use Rattle.listing.proofs.answer.frontier_line.Goals as goal
 
 pub returns : goal.returns
-returns g c =
+returns c =
     let f = c.args.f in
     let l : length f.entries ≡ 16 = search rules in
     let xs : List ℕ = take f.len f.entries in

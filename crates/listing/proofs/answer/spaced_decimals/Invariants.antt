@@ -5,4 +5,4 @@ use Rattle.listing.specs.Laying.{with_pieces, spaced}
 use Rattle.listing.proofs.answer.spaced_decimals.Given as goal
 
 abbrev pub invariant-loop-n : goal.invariant-loop-n
-invariant-loop-n g l = l.out ≡ with_pieces l.initial.out (spaced (take l.n-index l.list))
+invariant-loop-n l = l.out ≡ with_pieces l.initial.out (spaced (take l.n-index l.list))

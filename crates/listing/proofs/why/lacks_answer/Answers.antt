@@ -8,7 +8,7 @@ use Rattle.listing.proofs.why.lacks_answer.Goals as goal
 
 pub returns : goal.returns
 unfolding event_at
-returns g c = let a = c.args in
+returns c = let a = c.args in
     let w = whole a.g.now a.slots.now a.pasts.now in
     pieces_then a.out.now (pair_line (event_at w a.later.0) (event_at w a.earlier.0)) (numbers_line (chain_of w a.later.0)) c.pair_line.new.out c.chain_line.new.out
     (rw (c.event_at.ensures, c.event_at-2.ensures) at c.pair_line.ensures)

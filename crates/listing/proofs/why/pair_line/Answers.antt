@@ -8,7 +8,7 @@ use Rattle.listing.proofs.Laying.{pieces_then}
 use Rattle.listing.proofs.why.pair_line.Goals as goal
 
 pub returns : goal.returns
-returns g c =
+returns c =
     let later = found_fields c.args.later in
     let earlier = found_fields c.args.earlier in
     let end : List (List ℕ) = newline ∷ [] in
