@@ -20,7 +20,11 @@ pub fn rows_from(rows: &[usize], i: usize) -> &[usize] {
 
 // Row i; nothing where there is none.
 pub fn row(rows: &[usize], i: usize) -> &[usize] {
-    rows_from(rows, i).get(..ROW).unwrap_or(&[])
+    if MOST_ROWS <= i {
+        return &[];
+    }
+    let at = i * ROW;
+    rows.get(at..at + ROW).unwrap_or(&[])
 }
 
 // The row that the turn k takes, of m in turn.

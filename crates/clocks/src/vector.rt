@@ -55,16 +55,12 @@ pub fn well_formed_for(r: usize, v: &[Seq], id: EventId) -> bool
 }
 
 // Every entry of `a` is at most `b`'s.
-// A loop over the places: `all` took a tenth more steps in a whole pass, and a loop over `enumerate` two thirds more.
 pub fn at_most(a: &[Seq], b: &[Seq]) -> bool
     ensures { result ≡ at_most a.now b.now }
 {
-    for i in 0..a.len() {
-        if seq_by_idx(b, ReplicaIdx(i)) < a[i] {
-            return false;
-        }
-    }
-    true
+    a.iter()
+        .enumerate()
+        .all(|(i, x)| *x <= seq_by_idx(b, ReplicaIdx(i)))
 }
 
 // `partial_cmp` of the Rust's frontiers: None where neither is at most the other.
