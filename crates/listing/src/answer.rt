@@ -3,6 +3,7 @@
 
 ghost use Rattle.std.specs.Prelude.{◌≡◌, ℕ, [], ◌∷◌, ◌++◌, take};
 ghost use Rattle.text.specs.Numbers.{spelled};
+ghost use Rattle.text.specs.Bytes.{collected_in};
 ghost use Rattle.clocks.specs.Refusals.{number_of, number_in};
 ghost use Rattle.graph.specs.Cuts.{found_by};
 ghost use Rattle.graph.specs.Whole.{count_in};
@@ -18,7 +19,8 @@ use text::buffer::Buffer;
 
 // A number after a space.
 pub(super) fn spaced_decimal(out: &mut Buffer, n: usize)
-    ensures { out.new ≡ with_pieces out.old (spaced (n ∷ [])) }
+    ensures written { collected_in out.new ≡ with_pieces (collected_in out.old) (spaced (n ∷ [])) }
+    ensures same_reference { out.new.bytes.ghost_name ≡ out.old.bytes.ghost_name }
 {
     out.put(b" ");
     out.put_number(wide(n));
@@ -26,7 +28,8 @@ pub(super) fn spaced_decimal(out: &mut Buffer, n: usize)
 
 // Numbers, each after a space.
 fn spaced_decimals(out: &mut Buffer, list: &[usize])
-    ensures { out.new ≡ with_pieces out.old (spaced list.now) }
+    ensures written { collected_in out.new ≡ with_pieces (collected_in out.old) (spaced list.now) }
+    ensures same_reference { out.new.bytes.ghost_name ≡ out.old.bytes.ghost_name }
 {
     for n in list {
         spaced_decimal(out, *n);
@@ -35,7 +38,8 @@ fn spaced_decimals(out: &mut Buffer, list: &[usize])
 
 // The numbers behind a line's first piece, and its end.
 pub(super) fn line_rest(out: &mut Buffer, list: &[usize])
-    ensures { out.new ≡ with_pieces out.old (spaced list.now ++ (newline ∷ [])) }
+    ensures written { collected_in out.new ≡ with_pieces (collected_in out.old) (spaced list.now ++ (newline ∷ [])) }
+    ensures same_reference { out.new.bytes.ghost_name ≡ out.old.bytes.ghost_name }
 {
     spaced_decimals(out, list);
     out.put(b"\n");
@@ -43,7 +47,8 @@ pub(super) fn line_rest(out: &mut Buffer, list: &[usize])
 
 // A line of numbers.
 pub fn decimal_line(out: &mut Buffer, first: usize, list: &[usize])
-    ensures { out.new ≡ with_pieces out.old (line_of (spelled first) list.now) }
+    ensures written { collected_in out.new ≡ with_pieces (collected_in out.old) (line_of (spelled first) list.now) }
+    ensures same_reference { out.new.bytes.ghost_name ≡ out.old.bytes.ghost_name }
 {
     out.put_number(wide(first));
     line_rest(out, list);
@@ -51,7 +56,8 @@ pub fn decimal_line(out: &mut Buffer, first: usize, list: &[usize])
 
 // A line of a word and numbers.
 pub fn word_line(out: &mut Buffer, word: &[u8], list: &[usize])
-    ensures { out.new ≡ with_pieces out.old (line_of word.now list.now) }
+    ensures written { collected_in out.new ≡ with_pieces (collected_in out.old) (line_of word.now list.now) }
+    ensures same_reference { out.new.bytes.ghost_name ≡ out.old.bytes.ghost_name }
 {
     out.put(word);
     line_rest(out, list);
@@ -59,21 +65,24 @@ pub fn word_line(out: &mut Buffer, word: &[u8], list: &[usize])
 
 // The number alone.
 pub fn number_line(out: &mut Buffer, number: usize)
-    ensures { out.new ≡ with_pieces out.old (number_line number) }
+    ensures written { collected_in out.new ≡ with_pieces (collected_in out.old) (number_line number) }
+    ensures same_reference { out.new.bytes.ghost_name ≡ out.old.bytes.ghost_name }
 {
     decimal_line(out, number, &[]);
 }
 
 // A refusal's number.
 pub(super) fn refusal_line(out: &mut Buffer, refusal: Refusal)
-    ensures { out.new ≡ with_pieces out.old (number_line (number_of refusal)) }
+    ensures written { collected_in out.new ≡ with_pieces (collected_in out.old) (number_line (number_of refusal)) }
+    ensures same_reference { out.new.bytes.ghost_name ≡ out.old.bytes.ghost_name }
 {
     number_line(out, usize::from(refusal));
 }
 
 // 0 and a dash.
 fn none_line(out: &mut Buffer)
-    ensures { out.new ≡ with_pieces out.old none_line }
+    ensures written { collected_in out.new ≡ with_pieces (collected_in out.old) none_line }
+    ensures same_reference { out.new.bytes.ghost_name ≡ out.old.bytes.ghost_name }
 {
     out.put_number(0);
     out.put(b" ");
@@ -83,7 +92,8 @@ fn none_line(out: &mut Buffer)
 
 // 0, a frontier's entries and what stands behind them.
 fn frontier_line(out: &mut Buffer, f: CausalFrontier, behind: &[usize])
-    ensures { out.new ≡ with_pieces out.old (line_of (spelled 0) (take f.len f.entries ++ behind.now)) }
+    ensures written { collected_in out.new ≡ with_pieces (collected_in out.old) (line_of (spelled 0) (take f.len f.entries ++ behind.now)) }
+    ensures same_reference { out.new.bytes.ghost_name ≡ out.old.bytes.ghost_name }
 {
     let entries = f.entries();
     out.put_number(0);
@@ -94,7 +104,8 @@ fn frontier_line(out: &mut Buffer, f: CausalFrontier, behind: &[usize])
 // What `greatest` found.
 #[tactic(auto, using(crate::proofs::Laying::nothing_behind), unfolding(crate::specs::Answers::greatest_answer))]
 pub fn greatest_answer(out: &mut Buffer, found: Result<Option<CausalFrontier>, Refusal>)
-    ensures { (r : ℕ) → out.new ≡ with_pieces out.old (greatest_answer (found_by r found)) }
+    ensures written { (r : ℕ) → collected_in out.new ≡ with_pieces (collected_in out.old) (greatest_answer (found_by r found)) }
+    ensures same_reference { out.new.bytes.ghost_name ≡ out.old.bytes.ghost_name }
 {
     match found {
         Ok(Some(f)) => frontier_line(out, f, &[]),
@@ -106,7 +117,8 @@ pub fn greatest_answer(out: &mut Buffer, found: Result<Option<CausalFrontier>, R
 // What `advance` found, and how many went.
 #[tactic(auto, unfolding(crate::specs::Answers::advance_answer))]
 pub fn advance_answer(out: &mut Buffer, moved: Result<Option<Advanced>, Refusal>)
-    ensures { (r : ℕ) → out.new ≡ with_pieces out.old (advance_told r moved) }
+    ensures written { (r : ℕ) → collected_in out.new ≡ with_pieces (collected_in out.old) (advance_told r moved) }
+    ensures same_reference { out.new.bytes.ghost_name ≡ out.old.bytes.ghost_name }
 {
     match moved {
         Ok(Some(a)) => frontier_line(out, a.frontier, &[a.count]),
@@ -118,7 +130,8 @@ pub fn advance_answer(out: &mut Buffer, moved: Result<Option<Advanced>, Refusal>
 // What `remove` removed.
 #[tactic(auto, unfolding(crate::specs::Answers::count_answer))]
 pub fn count_answer(out: &mut Buffer, removed: Result<usize, Refusal>)
-    ensures { out.new ≡ with_pieces out.old (count_answer (number_in removed) (count_in removed)) }
+    ensures written { collected_in out.new ≡ with_pieces (collected_in out.old) (count_answer (number_in removed) (count_in removed)) }
+    ensures same_reference { out.new.bytes.ghost_name ≡ out.old.bytes.ghost_name }
 {
     match removed {
         Ok(count) => decimal_line(out, 0, &[count]),
@@ -128,7 +141,8 @@ pub fn count_answer(out: &mut Buffer, removed: Result<usize, Refusal>)
 
 // What `check` said.
 pub fn check_answer(out: &mut Buffer, told: Result<bool, Refusal>)
-    ensures { out.new ≡ with_pieces out.old (check_answer told) }
+    ensures written { collected_in out.new ≡ with_pieces (collected_in out.old) (check_answer told) }
+    ensures same_reference { out.new.bytes.ghost_name ≡ out.old.bytes.ghost_name }
 {
     match told {
         Ok(is_critical) => decimal_line(out, 0, &[usize::from(is_critical)]),

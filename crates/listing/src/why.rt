@@ -2,6 +2,7 @@
 #![tactic(auto, using(crate::proofs::Laying::pieces_append), unfolding(crate::specs::Laying::spaced))]
 
 ghost use Rattle.std.specs.Prelude.{◌≡◌, []};
+ghost use Rattle.text.specs.Bytes.{collected_in};
 ghost use Rattle.graph.specs.Whole.{whole};
 ghost use Rattle.graph.specs.Whys.{chain_of};
 ghost use Rattle.listing.specs.Laying.{with_pieces};
@@ -17,7 +18,8 @@ use text::buffer::Buffer;
 // 0 and the word.
 #[tactic(auto, unfolding(crate::specs::Words::bytes))]
 fn cut_line(out: &mut Buffer)
-    ensures { out.new ≡ with_pieces out.old cut_line }
+    ensures written { collected_in out.new ≡ with_pieces (collected_in out.old) cut_line }
+    ensures same_reference { out.new.bytes.ghost_name ≡ out.old.bytes.ghost_name }
 {
     out.put_number(0);
     out.put(b" ");
@@ -27,7 +29,8 @@ fn cut_line(out: &mut Buffer)
 
 // The id fields of a position where an event is held.
 fn found_fields(out: &mut Buffer, found: Option<TaggedOp>)
-    ensures { out.new ≡ with_pieces out.old (found_fields found) }
+    ensures written { collected_in out.new ≡ with_pieces (collected_in out.old) (found_fields found) }
+    ensures same_reference { out.new.bytes.ghost_name ≡ out.old.bytes.ghost_name }
 {
     if let Some(e) = found {
         id_fields(out, e.id());
@@ -36,7 +39,8 @@ fn found_fields(out: &mut Buffer, found: Option<TaggedOp>)
 
 // 0 and six fields, the later id first.
 fn pair_line(out: &mut Buffer, later: Option<TaggedOp>, earlier: Option<TaggedOp>)
-    ensures { out.new ≡ with_pieces out.old (pair_line later earlier) }
+    ensures written { collected_in out.new ≡ with_pieces (collected_in out.old) (pair_line later earlier) }
+    ensures same_reference { out.new.bytes.ghost_name ≡ out.old.bytes.ghost_name }
 {
     out.put_number(0);
     out.put(b" ");
@@ -48,7 +52,8 @@ fn pair_line(out: &mut Buffer, later: Option<TaggedOp>, earlier: Option<TaggedOp
 
 // Numbers with a space between.
 fn numbers_line(out: &mut Buffer, list: &[usize])
-    ensures { out.new ≡ with_pieces out.old (numbers_line list.now) }
+    ensures written { collected_in out.new ≡ with_pieces (collected_in out.old) (numbers_line list.now) }
+    ensures same_reference { out.new.bytes.ghost_name ≡ out.old.bytes.ghost_name }
 {
     match list {
         [] => out.put(b"\n"),
@@ -58,7 +63,8 @@ fn numbers_line(out: &mut Buffer, list: &[usize])
 
 // The chain's positions from one downward; a list of 256 has always room.
 fn chain_line(out: &mut Buffer, g: &EventGraph, i: NodeIndex, pasts: &Pasts)
-    ensures { out.new ≡ with_pieces out.old (numbers_line (chain_of (whole g.now [] pasts.now) i.0)) }
+    ensures written { collected_in out.new ≡ with_pieces (collected_in out.old) (numbers_line (chain_of (whole g.now [] pasts.now) i.0)) }
+    ensures same_reference { out.new.bytes.ghost_name ≡ out.old.bytes.ghost_name }
 {
     let mut list = [0usize; 256];
     let n = g.chain(i, pasts, &mut list).unwrap_or(0);
@@ -74,7 +80,8 @@ fn lacks_answer<'a>(
     slots: &'a Slots,
     pasts: &'a Pasts,
 )
-    ensures { out.new ≡ with_pieces out.old (lacks_answer (whole g.now slots.now pasts.now) later.0 earlier.0) }
+    ensures written { collected_in out.new ≡ with_pieces (collected_in out.old) (lacks_answer (whole g.now slots.now pasts.now) later.0 earlier.0) }
+    ensures same_reference { out.new.bytes.ghost_name ≡ out.old.bytes.ghost_name }
 {
     pair_line(out, g.event_at(later, slots), g.event_at(earlier, slots));
     chain_line(out, g, later, pasts);
@@ -88,7 +95,8 @@ pub fn why_answer<'a>(
     slots: &'a Slots,
     pasts: &'a Pasts,
 )
-    ensures { out.new ≡ with_pieces out.old (why_answer (whole g.now slots.now pasts.now) length) }
+    ensures written { collected_in out.new ≡ with_pieces (collected_in out.old) (why_answer (whole g.now slots.now pasts.now) length) }
+    ensures same_reference { out.new.bytes.ghost_name ≡ out.old.bytes.ghost_name }
 {
     match g.why(length, pasts) {
         Ok(None) => cut_line(out),

@@ -209,7 +209,7 @@ pub struct Mask<'a> {
 
 impl Mask<'_> {
     // The numbers as bytes, from the table's start on and as far as it has room.
-    pub fn bytes<'m>(mut self, table: &'m mut [u8; MOST_MASK]) -> &'m [u8] {
+    pub fn bytes<'m>(mut self, table: &'m mut [u8]) -> &'m [u8] {
         let mut len = 0;
         for (i, byte) in table.iter_mut().enumerate() {
             let Ok(n) = u8::read(&mut self.numbers) else {

@@ -1,6 +1,7 @@
 -- Bytes in a lent buffer.
 use Rattle.std.specs.Prelude.{Bool, true, List, [], ◌∷◌, ◌++◌, ◌≡◌, ℕ, suc, ◌+◌, leb, eqb, length, take, drop}
 use Rattle.laws.specs.Counting.{pick}
+use Rattle.text.specs.declared.buffer.Buffer.{Buffer}
 
 -- so many bytes fit from a place on
 abbrev pub fits : List ℕ → ℕ → ℕ → Bool
@@ -28,6 +29,10 @@ pub record Same (a b : List ℕ) (r : Bool) : Type 0 where
 pub record Collected : Type 0 where
   pub bytes : List ℕ
   pub len : ℕ
+
+-- what a buffer has
+unfoldable pub collected_in : Buffer → Collected
+collected_in b = record { bytes = b.bytes.now; len = b.len }
 
 -- with these bytes behind those that are collected; as it is where they do not fit
 abbrev pub with_put : Collected → List ℕ → Collected

@@ -9,10 +9,10 @@ use Rattle.listing.proofs.Laying.{pieces_append, spaced-append}
 use Rattle.listing.proofs.Shown.{shown-entries}
 use Rattle.listing.proofs.answer.frontier_line.Goals as goal
 
-pub returns : goal.returns
-returns c =
+pub returns-clause-written : goal.returns-clause-written
+returns-clause-written c =
     let f = c.args.f in
     let l : length f.entries ≡ 16 = search rules in
     let xs : List ℕ = take f.len f.entries in
-    let shown = rw (c.min.ensures, c.len.ensures, c.entries-entries.ensures, shown-entries f.entries f.len l) at c.spaced_decimals.ensures in
-    rw (spaced-append xs c.args.behind.now, append_assoc (spaced xs) (spaced c.args.behind.now) (newline ∷ []), pieces_append, ← c.put_number.ensures, ← shown) c.line_rest.ensures
+    let shown = rw (c.min.ensures, c.len.ensures, c.entries-entries.ensures, shown-entries f.entries f.len l) at c.spaced_decimals.ensures.written in
+    rw (spaced-append xs c.args.behind.now, append_assoc (spaced xs) (spaced c.args.behind.now) (newline ∷ []), pieces_append, ← c.put_number.ensures.written, ← shown) c.line_rest.ensures.written
