@@ -1,4 +1,4 @@
-// A buffer that bytes are collected in, from its start. Each call keeps the loan, so whoever lent the bytes knows what they are once it is over.
+// A buffer that bytes are collected in, from its start. Each call keeps the loan, from which whoever made the buffer of a slice knows what the slice holds once the loan is over.
 #![tactic(auto, unfolding(crate::specs::Bytes::collected_in))]
 
 ghost use Rattle.std.specs.Prelude.{◌≡◌, ◌-◌, take, length};
